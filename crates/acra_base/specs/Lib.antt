@@ -1,0 +1,12 @@
+pub mod Known
+pub mod Grows
+pub mod Causes
+pub mod Wires
+pub mod Memory
+pub mod Names
+pub mod Padded
+pub mod Client
+pub mod Draws
+pub mod Seal
+pub mod Opening
+pub mod Trial

@@ -1,0 +1,32 @@
+//! What every crate of the suite stands on: devices with told content and counts of faults, client
+//! ids, bytes, names and lists, seeded bytes, and the trait of the ciphers.
+#![tactic(auto)]
+
+mod aead;
+mod bytes;
+mod client;
+mod device;
+mod kind;
+mod memory;
+mod name;
+mod no_memory;
+mod random;
+mod sequence;
+mod stream;
+mod trial;
+mod whole;
+mod wire;
+
+pub use aead::{Aead, sealed_again};
+pub use bytes::Bytes;
+pub use client::{BadClientId, ClientId};
+pub use device::{Failed, Link, Sink, Source};
+pub use kind::ValueKind;
+pub use memory::{MemLink, SureLink};
+pub use name::Name;
+pub use no_memory::NoMemory;
+pub use random::{Random, SureRandom};
+pub use sequence::Sequence;
+pub use stream::{ReaderSource, WriterSink};
+pub use trial::TrialAead;
+pub use whole::{WriteFault, write_whole};

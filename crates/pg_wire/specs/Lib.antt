@@ -1,0 +1,5 @@
+pub mod Frames
+pub mod Streams
+pub mod Fronts
+pub mod Backs
+pub mod Reading

@@ -1,0 +1,51 @@
+use crate::front::Pair;
+use acra_base::{Bytes, Sequence};
+
+/// A column of a result, as it is described.
+#[derive(Debug, Drop)]
+pub struct Field {
+    /// The column's name, without a zero byte.
+    pub name: Bytes,
+    /// The table's OID, 0 for none.
+    pub table: u32,
+    /// The column's number in its table from 1, 0 for none.
+    pub attribute: u16,
+    /// The type's OID.
+    pub kind: u32,
+    /// The type's size in bytes, -1 for one that varies.
+    pub size: i16,
+    /// The type's modifier, -1 for none.
+    pub modifier: i32,
+    /// 0 for text, 1 for binary.
+    pub format: u16,
+}
+
+/// A field of an error.
+#[derive(Debug, Drop)]
+pub struct ErrorField {
+    /// What the text is, as `M` for the message. It isn't 0.
+    pub code: u8,
+    /// The text, without a zero byte.
+    pub text: Bytes,
+}
+
+/// A message of the server.
+#[derive(Debug, Drop)]
+pub enum Back {
+    /// Authentication: a code, 0 for success, and what follows it.
+    Auth { code: u32, rest: Bytes },
+    /// ParameterStatus.
+    Status(Pair),
+    /// BackendKeyData.
+    KeyData { process: u32, key: u32 },
+    /// ReadyForQuery: `I`, `T` or `E`.
+    Ready(u8),
+    /// RowDescription.
+    Row(Sequence<Field>),
+    /// DataRow: the cells, `None` for NULL.
+    Cells(Sequence<Option<Bytes>>),
+    /// CommandComplete with its tag.
+    Complete(Bytes),
+    /// ErrorResponse.
+    Error(Sequence<ErrorField>),
+}

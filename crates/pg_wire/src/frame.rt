@@ -1,0 +1,79 @@
+use acra_base::Bytes;
+use thiserror::Error;
+
+/// Whose messages a stream holds.
+#[derive(Clone, Copy, Debug, PartialEq, Eq)]
+pub enum Side {
+    /// What a client sends: startup packets first, then messages with a type byte.
+    Client,
+    /// What a server sends: messages with a type byte.
+    Backend,
+}
+
+/// One message of a stream, as it is framed.
+#[derive(Debug, Drop)]
+pub struct Frame {
+    /// Where its first byte stands in the stream, from 0.
+    pub offset: u64,
+    /// The type byte, 0 for a startup packet.
+    pub kind: u8,
+    /// What follows the length.
+    pub body: Bytes,
+}
+
+/// Why no frame begins here, in the order in which the faults are looked for.
+#[derive(Clone, Copy, Debug, PartialEq, Eq, Error)]
+pub enum FrameFault {
+    /// The type byte is none of the side.
+    #[error("unknown message type {0}")]
+    UnknownType(u8),
+    /// The length is below 4, or below 8 for a startup packet.
+    #[error("bad message length {0}")]
+    BadLength(u32),
+    /// The length is above the limit, or above 10,000 for a startup packet.
+    #[error("message length {0} is too long")]
+    TooLong(u32),
+}
+
+/// Why no frame is given.
+#[derive(Clone, Copy, Debug, PartialEq, Eq, Error)]
+pub enum NextFault {
+    /// The bytes from this offset on begin no frame.
+    #[error("at byte {offset}: {fault}")]
+    Frame { offset: u64, fault: FrameFault },
+    /// There was no memory for the body.
+    #[error("out of memory")]
+    NoMemory,
+}
+
+/// Why a body is not read.
+#[derive(Clone, Copy, Debug, PartialEq, Eq, Error)]
+pub enum ReadBody {
+    /// The body spells no message. The offset, from the body's first byte, is that of the first field
+    /// that can't be read, or of the first byte too many.
+    #[error("bad message body at byte {offset}")]
+    BodyFault { offset: usize },
+    /// There was no memory for the message.
+    #[error("out of memory")]
+    NoMemory,
+}
+
+/// What is wrong with a message.
+#[derive(Clone, Copy, Debug, PartialEq, Eq, Error)]
+pub enum MessageFault {
+    /// It is no frame.
+    #[error("{0}")]
+    Frame(FrameFault),
+    /// Its body spells no message.
+    #[error("bad message body")]
+    Body,
+    /// It may not stand here.
+    #[error("message out of its place")]
+    Place,
+    /// It makes the batch too long.
+    #[error("batch too long")]
+    Batch,
+    /// It disagrees with the statement that it answers.
+    #[error("unexpected shape of a result")]
+    Shape,
+}

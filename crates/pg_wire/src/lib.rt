@@ -1,0 +1,11 @@
+//! The messages of PostgreSQL's frontend/backend protocol 3.0: frames of a stream that comes in
+//! pieces, and the messages that their bodies spell (PostgreSQL manual, "Message Formats").
+#![tactic(auto)]
+
+mod back;
+mod frame;
+mod front;
+
+pub use back::{Back, ErrorField, Field};
+pub use frame::{Frame, FrameFault, MessageFault, NextFault, ReadBody, Side};
+pub use front::{Front, Pair};

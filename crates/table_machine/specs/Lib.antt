@@ -1,0 +1,4 @@
+pub mod Machine
+pub mod Stored
+pub mod Replies
+pub mod Backend

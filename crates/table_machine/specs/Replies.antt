@@ -1,0 +1,54 @@
+-- The messages that tell an outcome.
+use Rattle.std.specs.Prelude.{ℕ, ℤ, pos, negsuc, List, [], ◌∷◌, ◌++◌, map, length, codes}
+use Rattle.std.specs.Fmt.{decimal}
+use Rattle.acra_base.specs.declared.kind.ValueKind.{ValueKind}
+use Rattle.acra_base.specs.declared.kind.ValueKind.TheVariants as kind
+use Rattle.pg_wire.specs.declared.front.Pair.{Pair}
+use Rattle.pg_wire.specs.declared.back.Field.{Field}
+use Rattle.pg_wire.specs.declared.back.ErrorField.{ErrorField}
+use Rattle.pg_wire.specs.declared.back.Back.{Back}
+use Rattle.pg_wire.specs.declared.back.Back.TheVariants as backs
+use Rattle.table_machine.specs.declared.outcome.OutColumn.{OutColumn}
+use Rattle.table_machine.specs.declared.outcome.LabFault.{LabFault}
+use Rattle.table_machine.specs.declared.outcome.Outcome.{Outcome}
+use Rattle.table_machine.specs.declared.outcome.Outcome.TheVariants as outcome
+
+-- the OIDs of text, bytea, int4 and int8
+abbrev pub oid_of : ValueKind → ℕ
+oid_of kind.Str = 25
+oid_of kind.Bytes = 17
+oid_of kind.Int32 = 23
+oid_of kind.Int64 = 20
+
+-- a size of -1 varies
+abbrev pub size_of : ValueKind → ℤ
+size_of kind.Str = negsuc 0
+size_of kind.Bytes = negsuc 0
+size_of kind.Int32 = pos 4
+size_of kind.Int64 = pos 8
+
+abbrev pub field_of : OutColumn → Field
+field_of c = record { name = c.name; table = c.table; attribute = c.attribute; kind = oid_of c.kind; size = size_of c.kind; modifier = negsuc 0; format = 0 }
+
+abbrev pub error_field : ℕ → List ℕ → ErrorField
+error_field code text = record { code = code; text = text }
+
+-- severity twice, code and message
+abbrev pub error_of : List ℕ → List ℕ → Back
+error_of code text = backs.Error (error_field 83 (codes "ERROR") ∷ error_field 86 (codes "ERROR") ∷ error_field 67 code ∷ error_field 77 text ∷ [])
+
+abbrev pub ready : Back
+ready = backs.Ready 73
+
+abbrev pub messages_of : Outcome → List Back
+messages_of (outcome.Rows columns rows) = backs.Row (map field_of columns) ∷ map (λ row. backs.Cells row) rows ++ backs.Complete (codes "SELECT " ++ decimal (length rows)) ∷ []
+messages_of (outcome.Count n) = backs.Complete (codes "INSERT 0 " ++ decimal n) ∷ []
+messages_of (outcome.Fault fault) = error_of fault.code fault.text ∷ []
+
+abbrev pub status : List ℕ → List ℕ → Back
+status name value = backs.Status (record { name = name; value = value })
+
+-- authentication succeeds, two parameters, the session's number as its process, and the state idle
+abbrev pub startup_messages : ℕ → List Back
+startup_messages session =
+    backs.Auth 0 [] ∷ status (codes "client_encoding") (codes "UTF8") ∷ status (codes "standard_conforming_strings") (codes "on") ∷ backs.KeyData session 0 ∷ ready ∷ []

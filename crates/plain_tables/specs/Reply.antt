@@ -1,0 +1,25 @@
+-- The reply to a request: one function of the client, the request and the plaintext tables.
+use Rattle.std.specs.Prelude.{ℕ, List, [], ◌∷◌, ◌++◌}
+use Rattle.std.specs.List.{flat_map}
+use Rattle.pg_wire.specs.declared.back.Back.{Back}
+use Rattle.pg_wire.specs.Backs.{back_frame}
+use Rattle.sql_profile.specs.declared.statement.Statement.{Statement}
+use Rattle.table_machine.specs.Machine.{outcome_of, rows_after}
+use Rattle.table_machine.specs.Replies.{messages_of, startup_messages, ready}
+use Rattle.plain_tables.specs.Requests.{Request}
+use Rattle.plain_tables.specs.Plain.{PlainCell, plain, plain_action}
+
+-- the messages: those of the backend's startup for this session, those of the statement on the plaintext tables, none at the end
+abbrev pub reply : List ℕ → ℕ → Request → List (List PlainCell) → List Back
+reply client session (Request.Opens params) rows = startup_messages session
+reply client session (Request.Asks text tree) rows = messages_of (outcome_of (plain client) (plain_action client [] tree) rows) ++ ready ∷ []
+reply client session Request.Leaves rows = []
+
+-- the plaintext tables then, where these bytes are stored for a written value
+abbrev pub rows_then : List ℕ → List ℕ → Request → List (List PlainCell) → List (List PlainCell)
+rows_then client stored (Request.Opens params) rows = rows
+rows_then client stored (Request.Asks text tree) rows = rows_after (plain_action client stored tree) rows
+rows_then client stored Request.Leaves rows = rows
+
+abbrev pub reply_bytes : List Back → List ℕ
+reply_bytes messages = flat_map back_frame messages

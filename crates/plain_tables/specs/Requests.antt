@@ -1,0 +1,98 @@
+-- What a client asks, and the stream of bytes that it sends.
+use Rattle.std.specs.Prelude.{ℕ, ◌≡◌, ◌^◌, ◌≤◌, true, List, [], ◌∷◌, ◌++◌, length}
+use Rattle.std.specs.List.{flat_map, AllByRecursion}
+use Rattle.pg_wire.specs.declared.front.Pair.{Pair}
+use Rattle.pg_wire.specs.declared.front.Front.{Front}
+use Rattle.pg_wire.specs.declared.front.Front.TheVariants as fronts
+use Rattle.pg_wire.specs.declared.frame.Side.TheVariants as side
+use Rattle.pg_wire.specs.Frames.{IsFrame}
+use Rattle.pg_wire.specs.Fronts.{IsText, IsFront, front_kind, front_body, front_frame}
+use Rattle.sql_profile.specs.declared.statement.Operand.{Operand}
+use Rattle.sql_profile.specs.declared.statement.Operand.TheVariants as operand
+use Rattle.sql_profile.specs.declared.statement.Statement.{Statement}
+use Rattle.sql_profile.specs.declared.statement.Statement.TheVariants as statement
+use Rattle.sql_profile.specs.Grammar.{Spells}
+
+-- a startup message, a text with the statement that it spells, the end
+pub data Request : Type 0 where
+  Opens : List Pair → Request
+  Asks : (text : List ℕ) (tree : Statement) → Request
+  Leaves : Request
+
+abbrev pub message_of : Request → Front
+message_of (Request.Opens params) = fronts.Startup params
+message_of (Request.Asks text tree) = fronts.Query text
+message_of Request.Leaves = fronts.Terminate
+
+-- before the startup message, after it, after the end
+pub data Phase : Type 0 where
+  Opening : Phase
+  Serving : Phase
+  Over : Phase
+
+abbrev pub phase_after : Phase → Request → Phase
+phase_after phase (Request.Opens params) = Phase.Serving
+phase_after phase (Request.Asks text tree) = phase
+phase_after phase Request.Leaves = Phase.Over
+
+-- ---- limits
+
+-- a client's message has a length up to 2^24, a text 2^20 bytes, a string 2^18
+abbrev pub message_limit : ℕ
+message_limit = 2 ^ 24
+
+abbrev pub text_limit : ℕ
+text_limit = 2 ^ 20
+
+abbrev pub string_limit : ℕ
+string_limit = 2 ^ 18
+
+abbrev pub IsShortValue : Operand → Type 0
+IsShortValue (operand.Text text) = length text ≤ string_limit
+IsShortValue (operand.Number n) = Unit {0}
+
+abbrev pub HasShortStrings : Statement → Type 0
+HasShortStrings (statement.Select table items) = Unit {0}
+HasShortStrings (statement.Insert table columns rows) = AllByRecursion (λ (row : List Operand). AllByRecursion IsShortValue row) rows
+
+-- ---- what may be said where
+
+pub record IsAsked (text : List ℕ) (tree : Statement) : Type 0 where
+  pub no_zero : IsText text
+  pub short : length text ≤ text_limit
+  pub spelled : Spells text tree
+  pub strings : HasShortStrings tree
+
+-- a request in its place
+abbrev pub IsSaid : Phase → Request → Type 0
+IsSaid Phase.Opening (Request.Opens params) = IsFront (fronts.Startup params) × IsFrame side.Client message_limit true 0 (front_body (fronts.Startup params))
+IsSaid Phase.Serving (Request.Asks text tree) = IsAsked text tree
+IsSaid Phase.Serving Request.Leaves = Unit {0}
+IsSaid _ _ = ⊥
+
+abbrev pub AreSaid : Phase → List Request → Type 0
+AreSaid phase [] = Unit {0}
+AreSaid phase (r ∷ rs) = IsSaid phase r × AreSaid (phase_after phase r) rs
+
+abbrev pub phase_after_all : Phase → List Request → Phase
+phase_after_all phase [] = phase
+phase_after_all phase (r ∷ rs) = phase_after_all (phase_after phase r) rs
+
+-- ---- the stream
+
+abbrev pub request_bytes : Request → List ℕ
+request_bytes r = front_frame (message_of r)
+
+-- the requests, and then what is left
+abbrev pub stream_of : List Request → List ℕ → List ℕ
+stream_of rs rest = flat_map request_bytes rs ++ rest
+
+-- no whole request begins here
+abbrev pub NoRequest : Phase → List ℕ → Type 0
+NoRequest phase bytes = (r : Request) (rest : List ℕ) → IsSaid phase r → bytes ≡ request_bytes r ++ rest → ⊥
+
+-- the stream is these requests, and then what begins with none
+pub record Splits (client : List ℕ) (rs : List Request) (rest : List ℕ) : Type 0 where
+  pub whole : client ≡ stream_of rs rest
+  pub each : AreSaid Phase.Opening rs
+  pub last : NoRequest (phase_after_all Phase.Opening rs) rest

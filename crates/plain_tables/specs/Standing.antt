@@ -1,0 +1,26 @@
+-- Stored tables that stand for plaintext tables: the same rows in the same order, each protected cell replaced by what is
+-- stored for it.
+use Rattle.std.specs.Prelude.{ℕ, ◌≡◌, List, [], ◌∷◌, map}
+use Rattle.std.specs.List.{AllByRecursion}
+use Rattle.table_machine.specs.declared.cell.Cell.{Cell}
+use Rattle.table_machine.specs.declared.cell.Cell.TheVariants as cell
+use Rattle.plain_tables.specs.Plain.{PlainCell}
+
+abbrev pub stored_as : PlainCell → Cell
+stored_as (PlainCell.Public c) = c
+stored_as (PlainCell.Protected owner plain stored) = cell.Bytes stored
+
+abbrev pub stored_rows : List (List PlainCell) → List (List Cell)
+stored_rows rows = map (map stored_as) rows
+
+-- what a protected cell means is told by its stored bytes
+module _ (IsStored : List ℕ → List ℕ → List ℕ → Type 0) where
+  -- a row of this stage: a plain cell, and a protected one that has its meaning
+  abbrev pub IsMeant : List PlainCell → Type 0
+  IsMeant (PlainCell.Public c ∷ PlainCell.Protected owner plain stored ∷ []) = IsStored owner plain stored
+  IsMeant row = ⊥
+
+  -- the stored tables stand for the plaintext tables
+  pub record StandFor (tables : List (List Cell)) (rows : List (List PlainCell)) : Type 0 where
+    pub same : tables ≡ stored_rows rows
+    pub meant : AllByRecursion IsMeant rows

@@ -1,0 +1,9 @@
+//! One session of the lab: an encrypting proxy for one client over the lab's backend, from the bytes
+//! that come in to the bytes that go out.
+#![tactic(auto)]
+
+mod container;
+mod status;
+mod words;
+
+pub use status::Status;

@@ -1,3 +1,5 @@
 pub mod Containers
 pub mod Words
 pub mod Codes
+pub mod Cells
+pub mod Runs

@@ -3,6 +3,9 @@
 #![tactic(auto)]
 
 mod container;
+mod opening;
+mod rewriting;
+mod showing;
 mod status;
 mod words;
 

@@ -9,10 +9,14 @@ use Rattle.table_machine.specs.Stored.{bytea_text}
 abbrev pub as_text : Field → Field
 as_text f = record f { kind = 25; size = negsuc 0 }
 
+-- a change of the items at the protected places
+abbrev pub where_protected : {A : Type 0} → (A → A) → List Bool → List A → List A
+where_protected change [] items = items
+where_protected change (p ∷ ps) [] = []
+where_protected change (p ∷ ps) (item ∷ items) = (if p then change item else item) ∷ where_protected change ps items
+
 abbrev pub described : List Bool → List Field → List Field
-described [] fields = fields
-described (p ∷ ps) [] = []
-described (p ∷ ps) (f ∷ fields) = (if p then as_text f else f) ∷ described ps fields
+described ps fields = where_protected as_text ps fields
 
 -- what opens is shown opened, another cell as it is
 module _ (opened : List ℕ → Option (List ℕ)) where
@@ -25,9 +29,7 @@ module _ (opened : List ℕ → Option (List ℕ)) where
   shown_cell (Some text) = Some (opened_or text (opened text))
 
   abbrev pub shown_cells : List Bool → List (Option (List ℕ)) → List (Option (List ℕ))
-  shown_cells [] cells = cells
-  shown_cells (p ∷ ps) [] = []
-  shown_cells (p ∷ ps) (c ∷ cells) = (if p then shown_cell c else c) ∷ shown_cells ps cells
+  shown_cells ps cells = where_protected shown_cell ps cells
 
   abbrev pub shown_message : List Bool → Back → Back
   shown_message ps (backs.Row fields) = backs.Row (described ps fields)

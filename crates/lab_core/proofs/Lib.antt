@@ -1,3 +1,4 @@
 pub mod Packing
 pub mod SessionWords
 pub mod Protecting
+pub mod Opened

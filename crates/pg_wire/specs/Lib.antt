@@ -3,3 +3,4 @@ pub mod Streams
 pub mod Fronts
 pub mod Backs
 pub mod Reading
+pub mod Heads

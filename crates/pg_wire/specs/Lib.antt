@@ -4,3 +4,5 @@ pub mod Fronts
 pub mod Backs
 pub mod Reading
 pub mod Heads
+pub mod Reads
+pub mod Unreads

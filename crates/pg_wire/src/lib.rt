@@ -3,6 +3,7 @@
 #![tactic(auto)]
 
 mod back;
+mod fields;
 mod frame;
 mod framer;
 mod front;

@@ -4,7 +4,9 @@
 #![tactic(auto)]
 
 mod fault;
+mod printer;
 mod statement;
 
 pub use fault::{ParseFault, SqlKind, SqlRefusal};
+pub use printer::print;
 pub use statement::{Item, Items, Operand, Statement};

@@ -61,8 +61,8 @@ doubled_spelled (c ∷ cs) h =
     let b = both_true (scalar c) (scalars cs) h in
     let rest = doubled_spelled cs b.1 in
     elim (quote_or_other c) [
-      inl e ↦ subst (λ d. Spelled (doubled (encode d ++ encodes cs))) (sym e) (rw encode_quote (quote_before _ (quote_before _ rest)))
-    | inr other ↦ (c ∷ rest.0, (all_true (scalar c) (scalars rest.0) b.0 rest.1.0, rw (doubled_plain (encode c) (encodes cs) (plain_encode c other), rest.1.1) refl))
+      | inl e ↦ subst (λ d. Spelled (doubled (encode d ++ encodes cs))) (sym e) (rw encode_quote (quote_before _ (quote_before _ rest)))
+      | inr other ↦ (c ∷ rest.0, (all_true (scalar c) (scalars rest.0) b.0 rest.1.0, rw (doubled_plain (encode c) (encodes cs) (plain_encode c other), rest.1.1) refl))
     ]
 
 pub utf8_doubled : (text : List ℕ) → IsUtf8 text → IsUtf8 (doubled text)
@@ -76,11 +76,11 @@ plain_front [] rest text p e = (text, refl, e)
 plain_front (x ∷ xs) rest [] p e = cc
 plain_front (x ∷ xs) rest (y ∷ ys) p e =
     elim (quote_or_other y) [
-      inl q ↦ let same : x ∷ xs ++ rest ≡ 39 ∷ 39 ∷ doubled ys = rw q at e in absurd (p.0 cc)
-    | inr other ↦
-        let same : x ∷ xs ++ rest ≡ y ∷ doubled ys = e ∙ doubled_other y ys other in
-        let found = plain_front xs rest ys p.1 cc in
-        (found.0, cons_same y x ys (xs ++ found.0) (cc) found.1, found.2)
+      | inl q ↦ let same : x ∷ xs ++ rest ≡ 39 ∷ 39 ∷ doubled ys = rw q at e in absurd (p.0 cc)
+      | inr other ↦
+          let same : x ∷ xs ++ rest ≡ y ∷ doubled ys = e ∙ doubled_other y ys other in
+          let found = plain_front xs rest ys p.1 cc in
+          (found.0, cons_same y x ys (xs ++ found.0) (cc) found.1, found.2)
     ]
 
 -- a text that doubled begins with a quote begins with one
@@ -88,8 +88,8 @@ quote_front : (rest text : List ℕ) → 39 ∷ rest ≡ doubled text → (more 
 quote_front rest [] e = cc
 quote_front rest (y ∷ ys) e =
     elim (quote_or_other y) [
-      inl q ↦ let same : 39 ∷ rest ≡ 39 ∷ 39 ∷ doubled ys = rw q at e in (ys, cons_same y 39 ys ys q refl, cc)
-    | inr other ↦ let same : 39 ∷ rest ≡ y ∷ doubled ys = e ∙ doubled_other y ys other in absurd (other cc)
+      | inl q ↦ let same : 39 ∷ rest ≡ 39 ∷ 39 ∷ doubled ys = rw q at e in (ys, cons_same y 39 ys ys q refl, cc)
+      | inr other ↦ let same : 39 ∷ rest ≡ y ∷ doubled ys = e ∙ doubled_other y ys other in absurd (other cc)
     ]
 
 other_front : (c : ℕ) (rest text : List ℕ) → (c ≡ 39 → ⊥) → scalar c ≡ true → encode c ++ rest ≡ doubled text → ((more : List ℕ) → rest ≡ doubled more → Spelled more) → Spelled text
@@ -109,22 +109,22 @@ undoubled : (cs text : List ℕ) → scalars cs ≡ true → encodes cs ≡ doub
 undoubled [] [] h e = ([], (refl, refl))
 undoubled [] (y ∷ ys) h e =
     elim (quote_or_other y) [
-      inl q ↦ let same : [] ≡ 39 ∷ 39 ∷ doubled ys = rw q at e in cc
-    | inr other ↦ let same : [] ≡ y ∷ doubled ys = e ∙ doubled_other y ys other in cc
+      | inl q ↦ let same : [] ≡ 39 ∷ 39 ∷ doubled ys = rw q at e in cc
+      | inr other ↦ let same : [] ≡ y ∷ doubled ys = e ∙ doubled_other y ys other in cc
     ]
 undoubled (c ∷ []) text h e =
     elim (quote_or_other c) [
-      inl q ↦
-        let same : 39 ∷ [] ≡ doubled text = rw (q, encode_quote) at e in
-        let found = quote_front [] text same in
-        absurd (let no : [] ≡ 39 ∷ doubled found.0 = found.2 in cc)
-    | inr other ↦ other_front c [] text other (both_true (scalar c) true h).0 e (λ more f. undoubled [] more refl f)
+      | inl q ↦
+          let same : 39 ∷ [] ≡ doubled text = rw (q, encode_quote) at e in
+          let found = quote_front [] text same in
+          absurd (let no : [] ≡ 39 ∷ doubled found.0 = found.2 in cc)
+      | inr other ↦ other_front c [] text other (both_true (scalar c) true h).0 e (λ more f. undoubled [] more refl f)
     ]
 undoubled (c ∷ d ∷ cs) text h e =
     let b = both_true (scalar c) (scalars (d ∷ cs)) h in
     elim (quote_or_other c) [
-      inl q ↦ quote_twice d (encodes cs) text (rw (q, encode_quote) at e) (λ more f. undoubled cs more (both_true (scalar d) (scalars cs) b.1).1 f)
-    | inr other ↦ other_front c (encodes (d ∷ cs)) text other b.0 e (λ more f. undoubled (d ∷ cs) more b.1 f)
+      | inl q ↦ quote_twice d (encodes cs) text (rw (q, encode_quote) at e) (λ more f. undoubled cs more (both_true (scalar d) (scalars cs) b.1).1 f)
+      | inr other ↦ other_front c (encodes (d ∷ cs)) text other b.0 e (λ more f. undoubled (d ∷ cs) more b.1 f)
     ]
 
 pub utf8_undoubled : (text : List ℕ) → IsUtf8 (doubled text) → IsUtf8 text

@@ -69,18 +69,18 @@ First a more rest = ((a ≡ 39) × (doubled (a ∷ more) ++ rest ≡ 39 ∷ 39 �
 
 first_byte : (a : ℕ) (more rest : List ℕ) → First a more rest
 first_byte a more rest = elim (quote_or_other a) [
-    inl e ↦ inl (e, rw e refl)
+  | inl e ↦ inl (e, rw e refl)
   | inr other ↦ inr (other, ap (λ text. text ++ rest) (doubled_other a more other))
-  ]
+]
 
 no_quote_after : (x more : List ℕ) → Stops (nat_eq 39) x → x ≡ 39 ∷ more → ⊥
 no_quote_after x more s e = let t : true ≡ false = subst (Stops (nat_eq 39)) e s in cc
 
 closed_early : (b : ℕ) (more rest x : List ℕ) → Stops (nat_eq 39) x → 39 ∷ x ≡ doubled (b ∷ more) ++ rest → ⊥
 closed_early b more rest x s e = elim (first_byte b more rest) [
-    inl f ↦ let g : 39 ∷ x ≡ 39 ∷ 39 ∷ (doubled more ++ rest) = e ∙ f.1 in no_quote_after x (doubled more ++ rest) s cc
+  | inl f ↦ let g : 39 ∷ x ≡ 39 ∷ 39 ∷ (doubled more ++ rest) = e ∙ f.1 in no_quote_after x (doubled more ++ rest) s cc
   | inr f ↦ let g : 39 ∷ x ≡ b ∷ (doubled more ++ rest) = e ∙ f.1 in f.0 cc
-  ]
+]
 
 one_step : (a b : ℕ) (others more x y : List ℕ) → doubled (a ∷ others) ++ 39 ∷ x ≡ doubled (b ∷ more) ++ 39 ∷ y → First a others (39 ∷ x) → First b more (39 ∷ y)
     → (doubled others ++ 39 ∷ x ≡ doubled more ++ 39 ∷ y → (others ≡ more) × (x ≡ y)) → (a ∷ others ≡ b ∷ more) × (x ≡ y)
@@ -120,9 +120,9 @@ unclosed_step a b others more y e (inr f) (inr g) go =
 pub unclosed : (a b y : List ℕ) → Stops (nat_eq 39) y → doubled a ≡ doubled b ++ 39 ∷ y → ⊥
 unclosed [] [] y t e = cc
 unclosed [] (b ∷ more) y t e = elim (first_byte b more (39 ∷ y)) [
-    inl f ↦ let h : [] ≡ 39 ∷ 39 ∷ (doubled more ++ 39 ∷ y) = e ∙ f.1 in cc
+  | inl f ↦ let h : [] ≡ 39 ∷ 39 ∷ (doubled more ++ 39 ∷ y) = e ∙ f.1 in cc
   | inr f ↦ let h : [] ≡ b ∷ (doubled more ++ 39 ∷ y) = e ∙ f.1 in cc
-  ]
+]
 unclosed (a ∷ more) [] y t e = closed_early a more [] y t (sym e ∙ sym (append-nil (doubled (a ∷ more))))
 unclosed (a ∷ others) (b ∷ more) y t e = unclosed_step a b others more y (append-nil _ ∙ e) (first_byte a others []) (first_byte b more (39 ∷ y)) (λ f. unclosed others more y t f)
 
@@ -147,8 +147,8 @@ module _ (c : ℕ) (cs rest : List ℕ) (h : begins_word c ≡ true) (all_on : l
       by_kind c (cs ++ rest) all l
       (λ g. absurd (let w = space_range c g in omega arith))
       (λ ds others more g also ends e is m.
-        let s = one_run goes_on_word cs ds rest others all_on also stops ends e in
-        (more, is ∙ ap (λ xs. Token.Word (map folded (c ∷ xs)) ∷ more) (sym s.0), subst (λ text. Lexes text more) (sym s.1) m))
+      let s = one_run goes_on_word cs ds rest others all_on also stops ends e in
+      (more, is ∙ ap (λ xs. Token.Word (map folded (c ∷ xs)) ∷ more) (sym s.0), subst (λ text. Lexes text more) (sym s.1) m))
       (λ ds others more g. absurd (let w = digit_range c g in omega arith))
       (λ content others more e. absurd (omega (arith, e)))
       (λ more g. absurd (let w = sign_range c g in omega arith))
@@ -165,9 +165,12 @@ module _ (d : ℕ) (ds rest : List ℕ) (h : is_digit d ≡ true) (all_on : list
       (λ g. absurd (let w = space_range d g in omega arith))
       (λ cs others more g. absurd (let w = word_range d g in omega arith))
       (λ es others more g also ends small e is m.
-        let s = one_run is_digit ds es rest others all_on also stops ends e in
-        (subst (λ xs. number_from 0 (d ∷ xs) < 2 ^ 127) (sym s.0) small,
-          more, is ∙ ap (λ xs. Token.Number (number_from 0 (d ∷ xs)) ∷ more) (sym s.0), subst (λ text. Lexes text more) (sym s.1) m))
+      let s = one_run is_digit ds es rest others all_on also stops ends e in (
+        subst (λ xs. number_from 0 (d ∷ xs) < 2 ^ 127) (sym s.0) small,
+        more,
+        is ∙ ap (λ xs. Token.Number (number_from 0 (d ∷ xs)) ∷ more) (sym s.0),
+        subst (λ text. Lexes text more) (sym s.1) m,
+      ))
       (λ content others more e. absurd (omega (arith, e)))
       (λ more g. absurd (let w = sign_range d g in omega arith))
 
@@ -185,8 +188,8 @@ module _ (content rest : List ℕ) (stops : Stops (nat_eq 39) rest) where
       (λ cs others more g. absurd (let w = word_range 39 g in omega arith))
       (λ es others more g. absurd (let w = digit_range 39 g in omega arith))
       (λ found others more _ ends e is m.
-        let s = one_string content found rest others stops ends e in
-        (more, is ∙ ap (λ xs. Token.Text xs ∷ more) (sym s.0), subst (λ text. Lexes text more) (sym s.1) m))
+      let s = one_string content found rest others stops ends e in
+      (more, is ∙ ap (λ xs. Token.Text xs ∷ more) (sym s.0), subst (λ text. Lexes text more) (sym s.1) m))
       (λ more g. absurd (let w = sign_range 39 g in omega arith))
 
   pub text_takes : Takes (39 ∷ doubled content ++ 39 ∷ rest) (Token.Text content ∷ []) rest

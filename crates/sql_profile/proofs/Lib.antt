@@ -1,0 +1,6 @@
+pub mod Joining
+pub mod Doubling
+pub mod Digits
+pub mod Printed
+pub mod Lexing
+pub mod Unique

@@ -6,6 +6,9 @@
 
 mod cell;
 mod outcome;
+mod stored;
+mod tables;
 
 pub use cell::Cell;
 pub use outcome::{LabFault, OutColumn, Outcome};
+pub use tables::Tables;

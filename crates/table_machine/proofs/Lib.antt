@@ -1,1 +1,4 @@
 pub mod Texts
+pub mod Lengths
+pub mod Tokens
+pub mod Told

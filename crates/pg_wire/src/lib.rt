@@ -5,7 +5,10 @@
 mod back;
 mod frame;
 mod front;
+mod put;
+mod write;
 
 pub use back::{Back, ErrorField, Field};
 pub use frame::{Frame, FrameFault, MessageFault, NextFault, ReadBody, Side};
 pub use front::{Front, Pair};
+pub use write::{write_back, write_front};

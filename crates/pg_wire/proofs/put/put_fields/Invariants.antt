@@ -1,0 +1,8 @@
+use Rattle.std.proofs.Common.{◌≡◌, ◌++◌, length, take}
+use Rattle.std.specs.Int.{w16, to_be_bytes}
+use Rattle.std.specs.List.{flat_map}
+use Rattle.pg_wire.specs.Backs.{field_bytes}
+use Rattle.pg_wire.proofs.put.put_fields.Given as goal
+
+abbrev pub invariant-fields : goal.invariant-fields
+invariant-fields l = l.out.items ≡ l.initial.out.items ++ flat_map field_bytes (take l.field-index l.fields)

@@ -2,3 +2,4 @@ pub mod Texts
 pub mod Lengths
 pub mod Tokens
 pub mod Told
+pub mod Stays

@@ -24,6 +24,8 @@ use Rattle.sql_profile.specs.declared.statement.Statement.TheVariants as stateme
 use Rattle.sql_profile.specs.Tree.{IsStatement, IsItem, AreItems, AreRows, AreValues, IsColumn, id, body}
 use Rattle.table_machine.specs.declared.cell.Cell.{Cell}
 use Rattle.table_machine.specs.declared.cell.Cell.TheVariants as cell
+use Rattle.table_machine.specs.declared.outcome.OutColumn.{OutColumn}
+use Rattle.table_machine.specs.declared.outcome.Outcome.TheVariants as outcome
 use Rattle.table_machine.specs.Machine.{Action, out_column, out_cell, column_number}
 use Rattle.table_machine.specs.Stored.{stored, spelled, stored_row, stored_action, bytea_of, bytea_text}
 use Rattle.table_machine.specs.Replies.{field_of, error_of, error_field}
@@ -156,3 +158,10 @@ executed-told (statement.Select table (select.Columns items)) rows is short smal
 executed-told (statement.Insert table columns []) rows is short small = bad_value-writable
 executed-told (statement.Insert table columns (row ∷ [])) rows is short small = insert-told (stored_row row) rows
 executed-told (statement.Insert table columns (row ∷ next ∷ more)) rows is short small = bad_value-writable
+
+-- the outcome of a SELECT, by its parts
+pub select-told : (items : List Item) (rows shown : List (List Cell)) (columns : List OutColumn) (given : List (List (Option (List ℕ)))) → AreItems items → AreSmall rows → AreShort shown
+    → rows ≡ shown → columns ≡ map (out_column stored) items → given ≡ map (λ row. map (out_cell stored row) items) rows → IsTold (outcome.Rows columns given)
+select-told items rows shown columns given is small short e f g =
+    let as_rows : AreShort rows = rw e short in
+    rw (f, g) (columns-writable items is, rows-writable items rows is as_rows small)

@@ -1,8 +1,9 @@
 ghost use Rattle.std.specs.Prelude.{◌≡◌, map, [], OnErr, IfOk, option_map};
-ghost use Rattle.sql_profile.specs.Tree.{AreValues, IsStatement};
+ghost use Rattle.sql_profile.specs.Tree.{AreItems, AreValues, IsStatement};
 ghost use Rattle.table_machine.specs.Machine.{Action, out_cell, out_column, outcome_of};
 ghost use Rattle.table_machine.specs.Stored.{stored, stored_row};
 ghost use Rattle.table_machine.specs.Backend.{bad_value, executed, outcome_then, rows_executed, rows_then};
+ghost use Rattle.table_machine.specs.Told.{AreShort, IsTold};
 
 use crate::cell::Cell;
 use crate::outcome::{LabFault, OutColumn, Outcome};
@@ -25,7 +26,11 @@ impl Model for Tables {
 
     ghost Value = { List (List Cell) };
 
+    ghost use Rattle.table_machine.specs.Told.{AreSmall};
+
     ghost view = { λ t. t.rows.items };
+
+    ghost invariant = { λ t. AreSmall t.rows.items };
 }
 
 impl Tables {
@@ -44,6 +49,7 @@ impl Tables {
         requires { IsStatement statement.now }
         ensures ok { IfOk result (λ outcome. (outcome ≡ executed statement.now self.old) × (self.new ≡ rows_executed statement.now self.old)) }
         ensures err { OnErr result (self.new ≡ self.old) }
+        ensures told { AreShort self.old → IfOk result IsTold }
     {
         match statement {
             Statement::Select { items, .. } => {
@@ -58,7 +64,9 @@ impl Tables {
     }
 
     fn select(&self, items: &[Item]) -> Result<Outcome, NoMemory>
-        ensures { IfOk result (λ outcome. outcome ≡ outcome_of stored (Action.Gives items.now) self.now) }
+        requires { AreItems items.now }
+        ensures given { IfOk result (λ outcome. outcome ≡ outcome_of stored (Action.Gives items.now) self.now) }
+        ensures told { AreShort self.now → IfOk result IsTold }
     {
         let columns = out_columns(self.alloc, items)?;
         let rows = out_rows(self.alloc, &self.rows, items)?;
@@ -69,6 +77,7 @@ impl Tables {
         requires { AreValues values.now }
         ensures ok { let action = option_map (λ cells. Action.Adds cells) (stored_row values.now) in IfOk result (λ outcome. (outcome ≡ outcome_then action self.old) × (self.new ≡ rows_then action self.old)) }
         ensures err { OnErr result (self.new ≡ self.old) }
+        ensures told { IfOk result IsTold }
     {
         match read_row(self.alloc, values)? {
             Some(row) => {

@@ -3,3 +3,4 @@ pub mod Lengths
 pub mod Tokens
 pub mod Told
 pub mod Stays
+pub mod Appended

@@ -6,6 +6,7 @@
 
 mod cell;
 mod outcome;
+mod replies;
 mod stored;
 mod tables;
 

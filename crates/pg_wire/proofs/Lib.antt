@@ -1,1 +1,3 @@
 mod Appends
+pub mod Heads
+pub mod Framed

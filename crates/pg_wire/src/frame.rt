@@ -1,4 +1,7 @@
-use acra_base::Bytes;
+ghost use Rattle.std.specs.Prelude.{◌≡◌};
+ghost use Rattle.pg_wire.specs.declared.frame.NextFault.TheVariants.{NoMemory as next_no_memory};
+
+use acra_base::{Bytes, NoMemory};
 use thiserror::Error;
 
 /// Whose messages a stream holds.
@@ -44,6 +47,14 @@ pub enum NextFault {
     /// There was no memory for the body.
     #[error("out of memory")]
     NoMemory,
+}
+
+impl From<NoMemory> for NextFault {
+    ghost from_gives = { λ _ e. e ≡ next_no_memory };
+
+    fn from(_: NoMemory) -> NextFault {
+        NextFault::NoMemory
+    }
 }
 
 /// Why a body is not read.

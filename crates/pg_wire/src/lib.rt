@@ -3,12 +3,16 @@
 #![tactic(auto)]
 
 mod back;
+mod fields;
 mod frame;
+mod framer;
 mod front;
+mod head;
 mod put;
 mod write;
 
 pub use back::{Back, ErrorField, Field};
 pub use frame::{Frame, FrameFault, MessageFault, NextFault, ReadBody, Side};
+pub use framer::Framer;
 pub use front::{Front, Pair};
 pub use write::{write_back, write_front};

@@ -1,0 +1,97 @@
+ghost use Rattle.std.specs.Prelude.{◌≡◌, ◌≤◌, length, drop, vec_len, OnOk, OnErr};
+ghost use Rattle.pg_wire.specs.Streams.{new_stream, fed, Gives};
+
+use crate::frame::{Frame, NextFault, Side};
+use crate::head::{Head, head_of, still_opening};
+use acra_base::{Bytes, NoMemory};
+use std::alloc::Global;
+use std::marker::Model;
+
+/// Cuts a stream that comes in pieces into frames.
+#[derive(Drop)]
+pub struct Framer {
+    alloc: Global,
+    who: Side,
+    limit: u32,
+    opening: bool,
+    offset: u64,
+    buffer: Vec<u8>,
+    start: usize,
+}
+
+impl Model for Framer {
+    ghost use Rattle.std.specs.Prelude.{◌≤◌, length, drop};
+    ghost use Rattle.pg_wire.specs.Streams.{Stream};
+
+    ghost Value = { Stream };
+
+    ghost view = { λ f. record { who = f.who; limit = f.limit; opening = f.opening; offset = f.offset; left = drop f.start f.buffer.items } };
+
+    ghost invariant = { λ f. f.start ≤ length f.buffer.items };
+}
+
+/// Lets the first bytes go.
+fn drop_front(bytes: &mut Vec<u8>, count: usize)
+    requires { count ≤ vec_len bytes.old }
+    ensures { bytes.new.items ≡ drop count bytes.old.items }
+{
+    drop(bytes.drain(..count));
+}
+
+impl Framer {
+    /// A stream of which nothing came, with this limit on the length of a frame. It takes no memory.
+    pub fn new(alloc: Global, side: Side, limit: u32) -> Framer
+        ensures { result ≡ new_stream side limit }
+    {
+        Framer {
+            alloc,
+            who: side,
+            limit,
+            opening: matches!(side, Side::Client),
+            offset: 0,
+            buffer: Vec::new(alloc),
+            start: 0,
+        }
+    }
+
+    /// Takes the next piece of the stream. Without memory nothing is taken.
+    pub fn feed(&mut self, piece: &[u8]) -> Result<(), NoMemory>
+        ensures ok { OnOk result (self.new ≡ fed self.old piece.now) }
+        ensures err { OnErr result (self.new ≡ self.old) }
+    {
+        // Bytes that were given out make room once they are half of the buffer.
+        if self.start >= self.buffer.len() - self.start {
+            drop_front(&mut self.buffer, self.start);
+            self.start = 0;
+        }
+        self.buffer.extend_from_slice(piece)?;
+        Ok(())
+    }
+
+    /// Gives out the next frame, `None` before it is whole. A fault stays, and without memory nothing
+    /// is given out.
+    pub fn next(&mut self) -> Result<Option<Frame>, NextFault>
+        ensures { Gives self.old result self.new }
+    {
+        let left = &self.buffer[self.start..];
+        match head_of(self.who, self.limit, self.opening, left) {
+            Head::Unfinished => Ok(None),
+            Head::Fault(fault) => Err(NextFault::Frame {
+                offset: self.offset,
+                fault,
+            }),
+            Head::Whole { kind, body, rest } => {
+                let frame = Frame {
+                    offset: self.offset,
+                    kind,
+                    body: Bytes::copied(self.alloc, body)?,
+                };
+                let size = left.len() - rest.len();
+                self.opening = still_opening(self.opening, body);
+                self.offset = self.offset.wrapping_add(size as u64);
+                self.start += size;
+                Ok(Some(frame))
+            }
+        }
+    }
+}

@@ -1,0 +1,5 @@
+pub mod Joining
+pub mod Doubling
+pub mod Digits
+pub mod Printed
+pub mod Lexing

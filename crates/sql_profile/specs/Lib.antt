@@ -1,3 +1,4 @@
+pub mod Begins
 pub mod Tree
 pub mod Tokens
 pub mod Grammar

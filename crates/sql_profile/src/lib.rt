@@ -4,7 +4,11 @@
 #![tactic(auto)]
 
 mod fault;
+mod laws;
+mod printer;
 mod statement;
 
 pub use fault::{ParseFault, SqlKind, SqlRefusal};
+pub use laws::canonical_text_spells;
+pub use printer::print;
 pub use statement::{Item, Items, Operand, Statement};

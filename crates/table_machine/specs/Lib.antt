@@ -2,3 +2,4 @@ pub mod Machine
 pub mod Stored
 pub mod Replies
 pub mod Backend
+pub mod Told

@@ -6,6 +6,10 @@
 
 mod cell;
 mod outcome;
+mod replies;
+mod stored;
+mod tables;
 
 pub use cell::Cell;
 pub use outcome::{LabFault, OutColumn, Outcome};
+pub use tables::Tables;

@@ -1,0 +1,53 @@
+-- Texts without a zero byte, and a byte that is looked for.
+use Rattle.std.proofs.Common.{◌≡◌, ◌≢◌, ℕ, ◌+◌, ◌<◌, ◌^◌, ◌/◌, ◌%◌, Bool, true, false, ◌&&◌, List, [], ◌∷◌, ◌++◌, length, not, eqb, ltb, codes, refl, ap, sym, cond, rules, arith, get_or, Contains}
+use Rattle.std.proofs.lemmas.Grind.{common_steps}
+use Rattle.std.proofs.lemmas.List.Elements.{All-append, All-contains, All-cons, All-nil}
+use Rattle.std.proofs.lemmas.Bool.{ltb-true}
+use Rattle.std.proofs.lemmas.Fmt.{decimal_by_steps}
+use Rattle.std.specs.Fmt.{decimal}
+use Rattle.std.specs.List.{list_any, list_all, All}
+use Rattle.pg_wire.specs.Fronts.{IsText}
+
+-- two tests that agree find the same
+pub list_any-same : (p q : ℕ → Bool) → ((x : ℕ) → p x ≡ q x) → (xs : List ℕ) → list_any p xs ≡ list_any q xs
+list_any-same p q h [] = refl
+list_any-same p q h (x ∷ xs) = rw (h x, list_any-same p q h xs) refl
+
+pub eqb-swap : (m n : ℕ) → eqb m n ≡ eqb n m
+eqb-swap m n = grind arith
+
+-- a byte is looked for from either side
+pub has_byte : (byte : ℕ) (xs : List ℕ) → list_any (eqb byte) xs ≡ list_any (λ x. eqb x byte) xs
+has_byte byte xs = list_any-same (eqb byte) (λ x. eqb x byte) (λ x. eqb-swap byte x) xs
+
+pub and-both : (a b : Bool) → (a && b) ≡ true → (a ≡ true) × (b ≡ true)
+and-both true b h = (refl, h)
+and-both false b h = cc
+
+-- no byte is zero
+abbrev pub ArePositive : List ℕ → Type 0
+ArePositive xs = All (λ x. 0 < x) xs
+
+pub IsText-from_positive : (xs : List ℕ) → ArePositive xs → IsText xs
+IsText-from_positive xs h has = let wrong : 0 < 0 = All-contains (λ x. 0 < x) xs 0 h has in absurd (omega arith)
+
+pub ArePositive-from_test : (xs : List ℕ) → list_all (ltb 0) xs ≡ true → ArePositive xs
+ArePositive-from_test [] h = All-nil (λ x. 0 < x)
+ArePositive-from_test (x ∷ xs) h =
+    let both = and-both (ltb 0 x) (list_all (ltb 0) xs) h in
+    All-cons (λ x. 0 < x) x xs (ltb-true 0 x both.0) (ArePositive-from_test xs both.1)
+
+-- a text that is written out
+pub IsText-from_test : (xs : List ℕ) → list_all (ltb 0) xs ≡ true → IsText xs
+IsText-from_test xs h = IsText-from_positive xs (ArePositive-from_test xs h)
+
+pub ArePositive-decimal : (n : ℕ) → n < 2 ^ 64 → ArePositive (decimal n)
+ArePositive-decimal n h =
+    decimal_by_steps (λ n ds. ArePositive ds)
+    (λ n lt. All-cons (λ x. 0 < x) (48 + n) [] (omega arith) (All-nil (λ x. 0 < x)))
+    (λ n ds le front. All-append (λ x. 0 < x) ds ((48 + n % 10) ∷ []) front (All-cons (λ x. 0 < x) (48 + n % 10) [] (omega arith) (All-nil (λ x. 0 < x))))
+    n h
+
+-- a literal and a number behind it
+pub IsText-tag : (front : List ℕ) (n : ℕ) → list_all (ltb 0) front ≡ true → n < 2 ^ 64 → IsText (front ++ decimal n)
+IsText-tag front n h lt = IsText-from_positive (front ++ decimal n) (All-append (λ x. 0 < x) front (decimal n) (ArePositive-from_test front h) (ArePositive-decimal n lt))

@@ -1,0 +1,16 @@
+use Rattle.std.proofs.Common.{◌++◌, map, length, codes}
+use Rattle.std.proofs.lemmas.Result.{on_ok_weaker}
+use Rattle.std.specs.Fmt.{decimal}
+use Rattle.pg_wire.specs.declared.back.Back.TheVariants as backs
+use Rattle.table_machine.specs.Replies.{field_of}
+use Rattle.table_machine.proofs.Appended.{three_appended}
+use Rattle.table_machine.proofs.replies.write_outcome.Goals as goal
+
+pub returns-in_ok-write_rows-in-Rows : goal.returns-in_ok-write_rows-in-Rows
+returns-in_ok-write_rows-in-Rows c =
+    rw c.in-Rows.is
+    (on_ok_weaker c.write_tag.result
+    (λ last. three_appended c.args.out.now.items c.write_columns.new.out.items c.write_rows.new.out.items c.write_tag.new.out.items
+    (backs.Row (map field_of c.in-Rows.columns)) (backs.Complete (codes "SELECT " ++ decimal (length c.in-Rows.rows))) (map (λ row. backs.Cells row) c.in-Rows.rows)
+    (rw c.as_slice.ensures at c.in_ok-write_columns-in-Rows.ensures) (rw c.as_slice-in-Rows.ensures at c.in_ok-write_rows-in-Rows.ensures) (rw c.len.ensures at last))
+    c.write_tag.ensures)

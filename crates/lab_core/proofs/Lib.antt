@@ -2,3 +2,5 @@ pub mod Packing
 pub mod SessionWords
 pub mod Protecting
 pub mod Opened
+pub mod Sending
+pub mod Showable

@@ -65,11 +65,11 @@ container_opens keys drawn plain cell full e =
     let same : pointwise nat_eq (take 24 cell) (header 1 (length cell - 112)) ≡ true = (bytes_decides (take 24 cell) (header 1 (length cell - 112))).1 (p.head ∙ ap (λ (n : ℕ). header 1 n) (sym rest)) in
     let formed : is_container 1 cell ≡ true = ap (λ (b : Bool). b && pointwise nat_eq (take 24 cell) (header 1 (length cell - 112))) le ∙ same in
     let key_opens : opened_key opening keys.client cell keys.key ≡ Some (data_key drawn) =
-        ap (λ (n : List ℕ). opening keys.key n keys.client (take 48 (drop 36 cell))) p.first ∙ ap (λ (s : List ℕ). opening keys.key (key_nonce drawn) keys.client s) p.wrapped
-        ∙ trial_opens keys.key (key_nonce drawn) (data_key drawn) in
+    ap (λ (n : List ℕ). opening keys.key n keys.client (take 48 (drop 36 cell))) p.first ∙ ap (λ (s : List ℕ). opening keys.key (key_nonce drawn) keys.client s) p.wrapped
+    ∙ trial_opens keys.key (key_nonce drawn) (data_key drawn) in
     let value_opens : opened_value opening keys.client cell (data_key drawn) ≡ Some plain =
-        ap (λ (n : List ℕ). opening (data_key drawn) n keys.client (drop 96 cell)) p.second ∙ ap (λ (s : List ℕ). opening (data_key drawn) (value_nonce drawn) keys.client s) p.last
-        ∙ trial_opens (data_key drawn) (value_nonce drawn) plain in
+    ap (λ (n : List ℕ). opening (data_key drawn) n keys.client (drop 96 cell)) p.second ∙ ap (λ (s : List ℕ). opening (data_key drawn) (value_nonce drawn) keys.client s) p.last
+    ∙ trial_opens (data_key drawn) (value_nonce drawn) plain in
     ap (λ (b : Bool). if b then option_and_then (opened_value opening keys.client cell) (opened_key opening keys.client cell keys.key) else None) formed
     ∙ ap (λ (o : Option (List ℕ)). option_and_then (opened_value opening keys.client cell) o) key_opens ∙ value_opens
 

@@ -7,3 +7,5 @@ pub mod Numbers
 pub mod Texts
 pub mod Items
 pub mod RowLaws
+pub mod Messages
+pub mod Within

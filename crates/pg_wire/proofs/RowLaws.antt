@@ -38,26 +38,26 @@ format_again n rest lt = rw (number_again w16 (2 ^ 16) wide16 n rest (omega arit
 
 -- ---- columns
 
-abbrev with_format : List ℕ → ℕ → ℕ → ℕ → ℕ → ℕ → ℕ × List ℕ → Result (Field × List ℕ) ℕ
+abbrev pub with_format : List ℕ → ℕ → ℕ → ℕ → ℕ → ℕ → ℕ × List ℕ → Result (Field × List ℕ) ℕ
 with_format name table attribute kind size modifier format =
     Ok (record { name = name; table = table; attribute = attribute; kind = kind; size = cast_signed w16 size; modifier = cast_signed w32 modifier; format = format.0 }, format.1)
 
-abbrev with_modifier : List ℕ → ℕ → ℕ → ℕ → ℕ → ℕ × List ℕ → Result (Field × List ℕ) ℕ
+abbrev pub with_modifier : List ℕ → ℕ → ℕ → ℕ → ℕ → ℕ × List ℕ → Result (Field × List ℕ) ℕ
 with_modifier name table attribute kind size modifier = format_at modifier.1 >>= with_format name table attribute kind size modifier.0
 
-abbrev with_size : List ℕ → ℕ → ℕ → ℕ → ℕ × List ℕ → Result (Field × List ℕ) ℕ
+abbrev pub with_size : List ℕ → ℕ → ℕ → ℕ → ℕ × List ℕ → Result (Field × List ℕ) ℕ
 with_size name table attribute kind size = number_at w32 size.1 >>= with_modifier name table attribute kind size.0
 
-abbrev with_kind : List ℕ → ℕ → ℕ → ℕ × List ℕ → Result (Field × List ℕ) ℕ
+abbrev pub with_kind : List ℕ → ℕ → ℕ → ℕ × List ℕ → Result (Field × List ℕ) ℕ
 with_kind name table attribute kind = number_at w16 kind.1 >>= with_size name table attribute kind.0
 
-abbrev with_attribute : List ℕ → ℕ → ℕ × List ℕ → Result (Field × List ℕ) ℕ
+abbrev pub with_attribute : List ℕ → ℕ → ℕ × List ℕ → Result (Field × List ℕ) ℕ
 with_attribute name table attribute = number_at w32 attribute.1 >>= with_kind name table attribute.0
 
-abbrev with_table : List ℕ → ℕ × List ℕ → Result (Field × List ℕ) ℕ
+abbrev pub with_table : List ℕ → ℕ × List ℕ → Result (Field × List ℕ) ℕ
 with_table name table = number_at w16 table.1 >>= with_attribute name table.0
 
-abbrev with_name : List ℕ × List ℕ → Result (Field × List ℕ) ℕ
+abbrev pub with_name : List ℕ × List ℕ → Result (Field × List ℕ) ℕ
 with_name name = number_at w32 name.1 >>= with_table name.0
 
 -- the spelling of a column, grouped as it is read
@@ -159,13 +159,13 @@ chosen : {A : Type 0} (b : Bool) (x y z : A) → cond b x y ≡ z → ((b ≡ tr
 chosen true x y z e = inl (refl, e)
 chosen false x y z e = inr (refl, e)
 
-abbrev some_cell : List ℕ × List ℕ → Result (Option (List ℕ) × List ℕ) ℕ
+abbrev pub some_cell : List ℕ × List ℕ → Result (Option (List ℕ) × List ℕ) ℕ
 some_cell cell = Ok (Some cell.0, cell.1)
 
-abbrev sized_cell : ℕ → ℕ × List ℕ → Result (Option (List ℕ) × List ℕ) ℕ
+abbrev pub sized_cell : ℕ → ℕ × List ℕ → Result (Option (List ℕ) × List ℕ) ℕ
 sized_cell len n = cond (ltb n.0 (2 ^ 31)) (bytes_at n.0 n.1 >>= some_cell) (Err len)
 
-abbrev cell_behind : ℕ → ℕ × List ℕ → Result (Option (List ℕ) × List ℕ) ℕ
+abbrev pub cell_behind : ℕ → ℕ × List ℕ → Result (Option (List ℕ) × List ℕ) ℕ
 cell_behind len n = cond (eqb n.0 4294967295) (Ok (None, n.1)) (sized_cell len n)
 
 kept_bind : {A : Type 0} (b : Bool) (r : Result A ℕ) (d : ℕ) (y : A) → cond b r (Err d) ≡ Ok y → (b ≡ true) × (r ≡ Ok y)

@@ -1,3 +1,5 @@
 mod Appends
 pub mod Heads
 pub mod Framed
+pub mod Loops
+pub mod Shorter

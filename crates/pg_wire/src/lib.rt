@@ -3,12 +3,16 @@
 #![tactic(auto)]
 
 mod back;
+mod columns;
 mod fields;
 mod frame;
 mod framer;
 mod front;
 mod head;
+mod lists;
 mod put;
+mod read_back;
+mod read_front;
 mod write;
 
 pub use back::{Back, ErrorField, Field};

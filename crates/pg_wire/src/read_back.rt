@@ -1,0 +1,94 @@
+ghost use Rattle.std.specs.Prelude.{◌≡◌, ℕ, List, IfOk};
+ghost use Rattle.pg_wire.specs.Reads.{state_at, auth_at, key_data_at, back_at, back_read};
+ghost use Rattle.pg_wire.specs.Unreads.{Gives};
+
+use crate::back::Back;
+use crate::columns::{row_cells_of, row_of};
+use crate::fields::{Unread, pair_of, str_of, u32_of};
+use crate::lists::error_fields_of;
+use acra_base::Bytes;
+use std::alloc::Global;
+
+/// Reads a state of ReadyForQuery.
+#[tactic(auto, unfolding(crate::specs::Reads::state_at))]
+fn state_of(bytes: &[u8]) -> Result<(u8, &[u8]), Unread>
+    ensures { Gives (λ x. (x.0, x.1.now)) result (state_at bytes.now) }
+{
+    match bytes {
+        [] => Err(Unread::At { left: 0 }),
+        [state, rest @ ..] => {
+            if *state == b'I' || *state == b'T' || *state == b'E' {
+                Ok((*state, rest))
+            } else {
+                Err(Unread::At { left: bytes.len() })
+            }
+        }
+    }
+}
+
+/// Reads an Authentication.
+#[tactic(auto, unfolding(crate::specs::Reads::auth_at))]
+fn auth_of(alloc: Global, bytes: &[u8]) -> Result<(Back, &[u8]), Unread>
+    ensures { Gives (λ x. (x.0, x.1.now)) result (auth_at bytes.now) }
+{
+    let (code, rest) = u32_of(bytes)?;
+    let rest = Bytes::copied(alloc, rest)?;
+    Ok((Back::Auth { code, rest }, &[]))
+}
+
+/// Reads a BackendKeyData.
+#[tactic(auto, unfolding(crate::specs::Reads::key_data_at))]
+fn key_data_of(bytes: &[u8]) -> Result<(Back, &[u8]), Unread>
+    ensures { Gives (λ x. (x.0, x.1.now)) result (key_data_at bytes.now) }
+{
+    let (process, rest) = u32_of(bytes)?;
+    let (key, rest) = u32_of(rest)?;
+    Ok((Back::KeyData { process, key }, rest))
+}
+
+/// Reads a server's message of this type at the front.
+fn back_of(alloc: Global, kind: u8, body: &[u8]) -> Result<(Back, &[u8]), Unread>
+    ensures { Gives (λ x. (x.0, x.1.now)) result (back_at kind body.now) }
+{
+    match kind {
+        b'R' => auth_of(alloc, body),
+        b'S' => {
+            let (pair, rest) = pair_of(alloc, body)?;
+            Ok((Back::Status(pair), rest))
+        }
+        b'K' => key_data_of(body),
+        b'Z' => {
+            let (state, rest) = state_of(body)?;
+            Ok((Back::Ready(state), rest))
+        }
+        b'T' => {
+            let (fields, rest) = row_of(alloc, body)?;
+            Ok((Back::Row(fields), rest))
+        }
+        b'D' => {
+            let (cells, rest) = row_cells_of(alloc, body)?;
+            Ok((Back::Cells(cells), rest))
+        }
+        b'C' => {
+            let (tag, rest) = str_of(alloc, body)?;
+            Ok((Back::Complete(tag), rest))
+        }
+        b'E' => {
+            let (fields, rest) = error_fields_of(alloc, body)?;
+            Ok((Back::Error(fields), rest))
+        }
+        _ => Err(Unread::At { left: body.len() }),
+    }
+}
+
+/// Reads a server's message of this type, all of the body.
+#[tactic(auto, unfolding(crate::specs::Reads::back_read))]
+fn whole_back(alloc: Global, kind: u8, body: &[u8]) -> Result<Back, Unread>
+    ensures { Gives (λ m. m) result (back_read kind body.now) }
+{
+    let (message, rest) = back_of(alloc, kind, body)?;
+    if !rest.is_empty() {
+        return Err(Unread::At { left: rest.len() });
+    }
+    Ok(message)
+}

@@ -1,0 +1,51 @@
+ghost use Rattle.std.specs.Prelude.{◌≡◌, ℕ, List, IfOk};
+ghost use Rattle.pg_wire.specs.Reads.{startup_at, front_at, front_read};
+ghost use Rattle.pg_wire.specs.Unreads.{Gives};
+
+use crate::fields::{Unread, str_of, u32_of};
+use crate::front::Front;
+use crate::lists::pairs_of;
+use std::alloc::Global;
+
+/// The code of protocol 3.0.
+const PROTOCOL: u32 = 196_608;
+
+/// Reads a startup packet.
+#[tactic(auto, unfolding(crate::specs::Reads::startup_at))]
+fn startup_of(alloc: Global, bytes: &[u8]) -> Result<(Front, &[u8]), Unread>
+    ensures { Gives (λ x. (x.0, x.1.now)) result (startup_at bytes.now) }
+{
+    let (code, rest) = u32_of(bytes)?;
+    if code != PROTOCOL {
+        return Err(Unread::At { left: bytes.len() });
+    }
+    let (params, rest) = pairs_of(alloc, rest)?;
+    Ok((Front::Startup { params }, rest))
+}
+
+/// Reads a client's message of this type at the front.
+fn front_of(alloc: Global, kind: u8, body: &[u8]) -> Result<(Front, &[u8]), Unread>
+    ensures { Gives (λ x. (x.0, x.1.now)) result (front_at kind body.now) }
+{
+    match kind {
+        0 => startup_of(alloc, body),
+        b'Q' => {
+            let (text, rest) = str_of(alloc, body)?;
+            Ok((Front::Query(text), rest))
+        }
+        b'X' => Ok((Front::Terminate, body)),
+        _ => Err(Unread::At { left: body.len() }),
+    }
+}
+
+/// Reads a client's message of this type, all of the body.
+#[tactic(auto, unfolding(crate::specs::Reads::front_read))]
+fn whole_front(alloc: Global, kind: u8, body: &[u8]) -> Result<Front, Unread>
+    ensures { Gives (λ m. m) result (front_read kind body.now) }
+{
+    let (message, rest) = front_of(alloc, kind, body)?;
+    if !rest.is_empty() {
+        return Err(Unread::At { left: rest.len() });
+    }
+    Ok(message)
+}

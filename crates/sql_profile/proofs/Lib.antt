@@ -3,3 +3,4 @@ pub mod Doubling
 pub mod Digits
 pub mod Printed
 pub mod Lexing
+pub mod Unique

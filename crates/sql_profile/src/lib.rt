@@ -9,6 +9,6 @@ mod printer;
 mod statement;
 
 pub use fault::{ParseFault, SqlKind, SqlRefusal};
-pub use laws::canonical_text_spells;
+pub use laws::{canonical_text_spells, one_reading};
 pub use printer::print;
 pub use statement::{Item, Items, Operand, Statement};

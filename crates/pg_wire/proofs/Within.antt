@@ -1,0 +1,185 @@
+-- No more is left behind a field, or at a fault, than there was.
+use Rattle.std.proofs.Common.{◌≡◌, ℕ, zero, suc, ◌+◌, ◌≤◌, Bool, true, false, cond, eqb, ltb, ◌||◌, ◌^◌, List, [], ◌∷◌, ◌++◌, length, take, drop, Option, Some, None, Result, Ok, Err, arith}
+use Rattle.std.specs.List.{position}
+use Rattle.std.specs.Int.{Width, w16, w32, byte_len, from_be_bytes, cast_signed}
+use Rattle.std.proofs.lemmas.List.{length-drop}
+use Rattle.pg_wire.specs.declared.front.Pair.{Pair}
+use Rattle.pg_wire.specs.declared.front.Front.{Front}
+use Rattle.pg_wire.specs.declared.front.Front.TheVariants as fronts
+use Rattle.pg_wire.specs.declared.back.Back.{Back}
+use Rattle.pg_wire.specs.declared.back.Back.TheVariants as backs
+use Rattle.pg_wire.specs.Reads.{◌>>=◌, number_at, bytes_at, around, str_at, pair_at, format_at, field_at, cell_at, error_at, state_at, items_at, counted_at, ended_at, listed_at, alone, mapped, auth_at, key_data_at, back_at, back_read, startup_at, front_at, front_read}
+use Rattle.pg_wire.proofs.RowLaws.{with_name, with_table, with_attribute, with_kind, with_size, with_modifier, with_format, some_cell, sized_cell, cell_behind}
+
+abbrev pub Within : {A : Type 0} → ℕ → Result (A × List ℕ) ℕ → Type 0
+Within n (Ok x) = length x.1 ≤ n
+Within n (Err left) = left ≤ n
+
+within_more : {A : Type 0} (m n : ℕ) (r : Result (A × List ℕ) ℕ) → m ≤ n → Within m r → Within n r
+within_more m n (Ok x) le h = omega arith
+within_more m n (Err left) le h = omega arith
+
+-- one step after another
+within_bind : {A B : Type 0} (n : ℕ) (r : Result (A × List ℕ) ℕ) (f : A × List ℕ → Result (B × List ℕ) ℕ) → Within n r → ((x : A × List ℕ) → Within (length x.1) (f x)) → Within n (r >>= f)
+within_bind n (Ok x) f h g = within_more (length x.1) n (f x) h (g x)
+within_bind n (Err left) f h g = h
+
+-- a test between two steps
+within_cond : {A : Type 0} (n : ℕ) (b : Bool) (r s : Result (A × List ℕ) ℕ) → Within n r → Within n s → Within n (cond b r s)
+within_cond n true r s p q = p
+within_cond n false r s p q = q
+
+within_mapped : {A B : Type 0} (n : ℕ) (f : A → B) (r : Result (A × List ℕ) ℕ) → Within n r → Within n (mapped f r)
+within_mapped n f (Ok x) h = h
+within_mapped n f (Err left) h = h
+
+number_within : (w : Width) (bytes : List ℕ) → Within (length bytes) (number_at w bytes)
+number_within w bytes =
+    within_cond (length bytes) (ltb (length bytes) (byte_len w)) (Err (length bytes)) (Ok (from_be_bytes w (take (byte_len w) bytes), drop (byte_len w) bytes)) (omega arith) (omega (arith, length-drop (byte_len w) bytes))
+
+bytes_within : (n : ℕ) (bytes : List ℕ) → Within (length bytes) (bytes_at n bytes)
+bytes_within n bytes = within_cond (length bytes) (ltb (length bytes) n) (Err (length bytes)) (Ok (take n bytes, drop n bytes)) (omega arith) (omega (arith, length-drop n bytes))
+
+around_within : (bytes : List ℕ) (o : Option ℕ) → Within (length bytes) (around bytes o)
+around_within bytes None = omega arith
+around_within bytes (Some i) = omega (arith, length-drop (i + 1) bytes)
+
+str_within : (bytes : List ℕ) → Within (length bytes) (str_at bytes)
+unfolding str_at
+str_within bytes = around_within bytes (position (λ (b : ℕ). eqb b 0) bytes)
+
+pair_within : (bytes : List ℕ) → Within (length bytes) (pair_at bytes)
+unfolding pair_at
+pair_within bytes =
+    within_bind (length bytes) (str_at bytes) (λ name. str_at name.1 >>= λ value. Ok (record { name = name.0; value = value.0 }, value.1)) (str_within bytes)
+      (λ name. within_bind (length name.1) (str_at name.1) (λ value. Ok (record { name = name.0; value = value.0 }, value.1)) (str_within name.1) (λ value. omega arith))
+
+format_within : (bytes : List ℕ) → Within (length bytes) (format_at bytes)
+unfolding format_at
+format_within bytes = by (number_at w16 bytes) (number_within w16 bytes) where
+  by : (r : Result (ℕ × List ℕ) ℕ) → Within (length bytes) r → Within (length bytes) (r >>= λ n. cond (ltb n.0 2) (Ok n) (Err (length bytes)))
+  by (Ok n) h = within_cond (length bytes) (ltb n.0 2) (Ok n) (Err (length bytes)) h (omega arith)
+  by (Err left) h = h
+
+field_within : (bytes : List ℕ) → Within (length bytes) (field_at bytes)
+unfolding field_at
+field_within bytes =
+    within_bind (length bytes) (str_at bytes) with_name (str_within bytes) (λ a.
+    within_bind (length a.1) (number_at w32 a.1) (with_table a.0) (number_within w32 a.1) (λ b.
+    within_bind (length b.1) (number_at w16 b.1) (with_attribute a.0 b.0) (number_within w16 b.1) (λ c.
+    within_bind (length c.1) (number_at w32 c.1) (with_kind a.0 b.0 c.0) (number_within w32 c.1) (λ d.
+    within_bind (length d.1) (number_at w16 d.1) (with_size a.0 b.0 c.0 d.0) (number_within w16 d.1) (λ e.
+    within_bind (length e.1) (number_at w32 e.1) (with_modifier a.0 b.0 c.0 d.0 e.0) (number_within w32 e.1) (λ f.
+    within_bind (length f.1) (format_at f.1) (with_format a.0 b.0 c.0 d.0 e.0 f.0) (format_within f.1) (λ g. omega arith)))))))
+
+cell_within : (bytes : List ℕ) → Within (length bytes) (cell_at bytes)
+unfolding cell_at
+cell_within bytes = by (number_at w32 bytes) (number_within w32 bytes) where
+  by : (r : Result (ℕ × List ℕ) ℕ) → Within (length bytes) r → Within (length bytes) (r >>= cell_behind (length bytes))
+  by (Ok n) h =
+    let cell = within_more (length n.1) (length bytes) (bytes_at n.0 n.1 >>= some_cell) h (within_bind (length n.1) (bytes_at n.0 n.1) some_cell (bytes_within n.0 n.1) (λ c. omega arith)) in
+    within_cond (length bytes) (eqb n.0 4294967295) (Ok (None, n.1)) (sized_cell (length bytes) n) h
+      (within_cond (length bytes) (ltb n.0 (2 ^ 31)) (bytes_at n.0 n.1 >>= some_cell) (Err (length bytes)) cell (omega arith))
+  by (Err left) h = h
+
+error_within : (bytes : List ℕ) → Within (length bytes) (error_at bytes)
+unfolding error_at
+error_within [] = omega arith
+error_within (code ∷ bytes) =
+    within_more (length bytes) (length (code ∷ bytes)) (str_at bytes >>= λ text. Ok (record { code = code; text = text.0 }, text.1)) (omega arith)
+      (within_bind (length bytes) (str_at bytes) (λ text. Ok (record { code = code; text = text.0 }, text.1)) (str_within bytes) (λ text. omega arith))
+
+state_within : (bytes : List ℕ) → Within (length bytes) (state_at bytes)
+unfolding state_at
+state_within [] = omega arith
+state_within (b ∷ bytes) = within_cond (length (b ∷ bytes)) ((eqb b 73 || eqb b 84) || eqb b 69) (Ok (b, bytes)) (Err (length (b ∷ bytes))) (omega arith) (omega arith)
+
+items_within : {A : Type 0} (item : List ℕ → Result (A × List ℕ) ℕ) → ((bytes : List ℕ) → Within (length bytes) (item bytes)) → (n : ℕ) (bytes : List ℕ) → Within (length bytes) (items_at item n bytes)
+unfolding items_at
+items_within item is zero bytes = omega arith
+items_within item is (suc n) bytes =
+    within_bind (length bytes) (item bytes) (λ first. items_at item n first.1 >>= λ others. Ok (first.0 ∷ others.0, others.1)) (is bytes) (λ first.
+    within_bind (length first.1) (items_at item n first.1) (λ others. Ok (first.0 ∷ others.0, others.1)) (items_within item is n first.1) (λ others. omega arith))
+
+counted_within : {A : Type 0} (item : List ℕ → Result (A × List ℕ) ℕ) → ((bytes : List ℕ) → Within (length bytes) (item bytes)) → (bytes : List ℕ) → Within (length bytes) (counted_at item bytes)
+unfolding counted_at
+counted_within item is bytes = within_bind (length bytes) (number_at w16 bytes) (λ n. items_at item n.0 n.1) (number_within w16 bytes) (λ n. items_within item is n.0 n.1)
+
+ended_within : {A : Type 0} (item : List ℕ → Result (A × List ℕ) ℕ) → ((bytes : List ℕ) → Within (length bytes) (item bytes)) → (n : ℕ) (bytes : List ℕ) → Within (length bytes) (ended_at item n bytes)
+unfolding ended_at
+ended_within item is zero bytes = omega arith
+ended_within item is (suc n) [] = omega arith
+ended_within item is (suc n) (zero ∷ bytes) = omega arith
+ended_within item is (suc n) (suc b ∷ bytes) =
+    within_bind (length (suc b ∷ bytes)) (item (suc b ∷ bytes)) (λ first. ended_at item n first.1 >>= λ others. Ok (first.0 ∷ others.0, others.1)) (is (suc b ∷ bytes)) (λ first.
+    within_bind (length first.1) (ended_at item n first.1) (λ others. Ok (first.0 ∷ others.0, others.1)) (ended_within item is n first.1) (λ others. omega arith))
+
+listed_within : {A : Type 0} (item : List ℕ → Result (A × List ℕ) ℕ) → ((bytes : List ℕ) → Within (length bytes) (item bytes)) → (bytes : List ℕ) → Within (length bytes) (listed_at item bytes)
+listed_within item is bytes = ended_within item is (length bytes) bytes
+
+auth_within : (bytes : List ℕ) → Within (length bytes) (auth_at bytes)
+unfolding auth_at
+auth_within bytes = within_bind (length bytes) (number_at w32 bytes) (λ code. Ok (backs.Auth code.0 code.1, [])) (number_within w32 bytes) (λ code. omega arith)
+
+key_data_within : (bytes : List ℕ) → Within (length bytes) (key_data_at bytes)
+unfolding key_data_at
+key_data_within bytes =
+    within_bind (length bytes) (number_at w32 bytes) (λ process. number_at w32 process.1 >>= λ key. Ok (backs.KeyData process.0 key.0, key.1)) (number_within w32 bytes) (λ process.
+    within_bind (length process.1) (number_at w32 process.1) (λ key. Ok (backs.KeyData process.0 key.0, key.1)) (number_within w32 process.1) (λ key. omega arith))
+
+-- a test, as a record, so that the rest of a chain is found
+record Bounded (A : Type 0) (n : ℕ) (r : Result (A × List ℕ) ℕ) : Type 0 where
+  bound : Within n r
+
+chain : {A : Type 0} {n : ℕ} {s : Result (A × List ℕ) ℕ} (b : Bool) (r : Result (A × List ℕ) ℕ) → Within n r → Bounded A n s → Bounded A n (cond b r s)
+chain {A} {n} {s} b r p q = record { bound = within_cond n b r s p q.bound }
+
+back_bounded : (kind : ℕ) (body : List ℕ) → Bounded Back (length body) (back_at kind body)
+back_bounded kind body =
+    let n = length body in
+    chain (eqb kind 82) (auth_at body) (auth_within body)
+    (chain (eqb kind 83) (mapped backs.Status (pair_at body)) (within_mapped n backs.Status (pair_at body) (pair_within body))
+    (chain (eqb kind 75) (key_data_at body) (key_data_within body)
+    (chain (eqb kind 90) (mapped backs.Ready (state_at body)) (within_mapped n backs.Ready (state_at body) (state_within body))
+    (chain (eqb kind 84) (mapped backs.Row (counted_at field_at body)) (within_mapped n backs.Row (counted_at field_at body) (counted_within field_at field_within body))
+    (chain (eqb kind 68) (mapped backs.Cells (counted_at cell_at body)) (within_mapped n backs.Cells (counted_at cell_at body) (counted_within cell_at cell_within body))
+    (chain (eqb kind 67) (mapped backs.Complete (str_at body)) (within_mapped n backs.Complete (str_at body) (str_within body))
+    (chain (eqb kind 69) (mapped backs.Error (listed_at error_at body)) (within_mapped n backs.Error (listed_at error_at body) (listed_within error_at error_within body))
+    (record { bound = omega arith }))))))))
+
+abbrev failed : {B : Type 0} → ℕ → Result B ℕ
+failed left = Err left
+
+err_is : {B : Type 0} (m n : ℕ) → failed {B = B} m ≡ failed n → m ≡ n
+err_is m n e = cc
+
+alone_within : {M : Type 0} (n left : ℕ) (r : Result (M × List ℕ) ℕ) → Within n r → (r >>= alone) ≡ Err left → left ≤ n
+alone_within {M} n left (Ok x) h e = by (eqb (length x.1) 0) e where
+  by : (b : Bool) → cond b (Ok x.0) (Err (length x.1)) ≡ Err left → left ≤ n
+  by true e' = absurd cc
+  by false e' = omega (arith, err_is {B = M} (length x.1) left e')
+alone_within {M} n left (Err l) h e = omega (arith, err_is {B = M} l left e)
+
+pub back_left : (kind : ℕ) (body : List ℕ) (left : ℕ) → back_read kind body ≡ Err left → left ≤ length body
+unfolding back_read
+back_left kind body left e = alone_within (length body) left (back_at kind body) (back_bounded kind body).bound e
+
+startup_within : (bytes : List ℕ) → Within (length bytes) (startup_at bytes)
+unfolding startup_at
+startup_within bytes = by (number_at w32 bytes) (number_within w32 bytes) where
+  by : (r : Result (ℕ × List ℕ) ℕ) → Within (length bytes) r → Within (length bytes) (r >>= λ code. cond (eqb code.0 196608) (mapped fronts.Startup (listed_at pair_at code.1)) (Err (length bytes)))
+  by (Ok code) h =
+    within_cond (length bytes) (eqb code.0 196608) (mapped fronts.Startup (listed_at pair_at code.1)) (Err (length bytes))
+      (within_more (length code.1) (length bytes) (mapped fronts.Startup (listed_at pair_at code.1)) h (within_mapped (length code.1) fronts.Startup (listed_at pair_at code.1) (listed_within pair_at pair_within code.1))) (omega arith)
+  by (Err left) h = h
+
+front_bounded : (kind : ℕ) (body : List ℕ) → Bounded Front (length body) (front_at kind body)
+front_bounded kind body =
+    chain (eqb kind 0) (startup_at body) (startup_within body)
+    (chain (eqb kind 81) (mapped fronts.Query (str_at body)) (within_mapped (length body) fronts.Query (str_at body) (str_within body))
+    (chain (eqb kind 88) (Ok (fronts.Terminate, body)) (omega arith)
+    (record { bound = omega arith })))
+
+pub front_left : (kind : ℕ) (body : List ℕ) (left : ℕ) → front_read kind body ≡ Err left → left ≤ length body
+unfolding front_read
+front_left kind body left e = alone_within (length body) left (front_at kind body) (front_bounded kind body).bound e

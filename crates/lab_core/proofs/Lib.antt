@@ -4,3 +4,4 @@ pub mod Protecting
 pub mod Opened
 pub mod Sending
 pub mod Showable
+pub mod Relayed

@@ -105,7 +105,7 @@ row_length cell row v =
     let number = decimal v.number in
     let text = doubled (bytea_text cell) in
     let shape : length (parenthesized (joined value_text (map (rewritten_value cell) row))) ≡ length (parenthesized (number ++ codes ", " ++ quoted (bytea_text cell))) =
-        ap (λ (r : List Operand). length (parenthesized (joined value_text (map (rewritten_value cell) r)))) v.shape in
+    ap (λ (r : List Operand). length (parenthesized (joined value_text (map (rewritten_value cell) r)))) v.shape in
     omega (
       arith,
       shape,

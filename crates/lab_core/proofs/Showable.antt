@@ -35,6 +35,7 @@ container_shorter keys cell plain e = by (is_container 1 cell) e
     value data_key v =
         let seal = trial_only data_key (take 12 (drop 84 cell)) (drop 96 cell) plain v in
         omega (arith, ap length seal, trial_longer data_key (take 12 (drop 84 cell)) plain, length-drop 96 cell)
+
     by : (b : Bool) → (if b then option_and_then (opened_value opening keys.client cell) (opened_key opening keys.client cell keys.key) else None) ≡ Some plain → length plain ≤ length cell
     by true o = option_and_then_some (opened_value opening keys.client cell) (opened_key opening keys.client cell keys.key) plain o (λ (data_key : List ℕ) k v. value data_key v)
     by false o = absurd cc

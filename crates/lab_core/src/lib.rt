@@ -4,9 +4,11 @@
 
 mod container;
 mod opening;
+mod relay;
 mod rewriting;
 mod showing;
 mod status;
+mod stop;
 mod words;
 
 pub use status::Status;

@@ -1,6 +1,6 @@
 -- What a client asks, and the stream of bytes that it sends.
-use Rattle.std.specs.Prelude.{ℕ, ◌≡◌, ◌^◌, ◌≤◌, true, List, [], ◌∷◌, ◌++◌, length}
-use Rattle.std.specs.List.{flat_map, AllByRecursion}
+use Rattle.std.specs.Prelude.{ℕ, ◌≡◌, ◌^◌, ◌≤◌, nat_le, Bool, true, List, [], ◌∷◌, ◌++◌, length}
+use Rattle.std.specs.List.{flat_map, list_all}
 use Rattle.pg_wire.specs.declared.front.Pair.{Pair}
 use Rattle.pg_wire.specs.declared.front.Front.{Front}
 use Rattle.pg_wire.specs.declared.front.Front.TheVariants as fronts
@@ -47,13 +47,14 @@ text_limit = 2 ^ 20
 abbrev pub string_limit : ℕ
 string_limit = 2 ^ 18
 
-abbrev pub IsShortValue : Operand → Type 0
-IsShortValue (operand.Text text) = length text ≤ string_limit
-IsShortValue (operand.Number n) = Unit {0}
+abbrev pub is_short_value : Operand → Bool
+is_short_value (operand.Text text) = nat_le (length text) string_limit
+is_short_value (operand.Number n) = true
 
-abbrev pub HasShortStrings : Statement → Type 0
-HasShortStrings (statement.Select table items) = Unit {0}
-HasShortStrings (statement.Insert table columns rows) = AllByRecursion (λ (row : List Operand). AllByRecursion IsShortValue row) rows
+-- each string is within its limit
+abbrev pub has_short_strings : Statement → Bool
+has_short_strings (statement.Select table items) = true
+has_short_strings (statement.Insert table columns rows) = list_all (λ (row : List Operand). list_all is_short_value row) rows
 
 -- ---- what may be said where
 
@@ -61,7 +62,7 @@ pub record IsAsked (text : List ℕ) (tree : Statement) : Type 0 where
   pub no_zero : IsText text
   pub short : length text ≤ text_limit
   pub spelled : Spells text tree
-  pub strings : HasShortStrings tree
+  pub strings : has_short_strings tree ≡ true
 
 -- a request in its place
 abbrev pub IsSaid : Phase → Request → Type 0

@@ -4,6 +4,3 @@ pub mod Tokens
 pub mod Told
 pub mod Stays
 pub mod Appended
-pub mod Owed
-pub mod Taking
-pub mod Answered

@@ -3,4 +3,3 @@ pub mod Stored
 pub mod Replies
 pub mod Backend
 pub mod Told
-pub mod Serving

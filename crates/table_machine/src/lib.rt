@@ -4,16 +4,12 @@
 //! At this stage there is one table, `notes`, with the columns `id` (int8) and `body` (bytea).
 #![tactic(auto)]
 
-mod answers;
-mod backend;
 mod cell;
 mod outcome;
 mod replies;
-mod requests;
 mod stored;
 mod tables;
 
-pub use backend::LabBackend;
 pub use cell::Cell;
 pub use outcome::{LabFault, OutColumn, Outcome};
 pub use tables::Tables;

@@ -12,3 +12,4 @@ pub mod Within
 pub mod Readings
 pub mod FrameLaws
 pub mod OneMessage
+pub mod Unfinished

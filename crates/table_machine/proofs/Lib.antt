@@ -4,3 +4,6 @@ pub mod Tokens
 pub mod Told
 pub mod Stays
 pub mod Appended
+pub mod Carried
+pub mod Taking
+pub mod Answered

@@ -1,22 +1,16 @@
-use Rattle.std.proofs.Common.{rules, ◌≡◌, ◌≤◌, List, ℕ, map, IfOk, OnErr, IsErrOf, ◌+◌, ◌-◌, ◌*◌, ◌<◌, length, ◌/◌, ◌%◌, Bool, true, false, nat_eq, nat_lt, [], ◌∷◌, ◌++◌, slice_index_or, slice_set, bit_and, bit_or, Fits, w8, w32, w64, Bor, MutBor}
-use Rattle.acra_base.specs.Causes.{Rose}
-use Rattle.pg_wire.specs.declared.back.Back.{Back as Message}
-use Rattle.pg_wire.specs.Backs.{back_frame}
-use Rattle.table_machine.specs.Told.{IsWritable}
-use Rattle.plain_tables.specs.Reply.{reply_bytes}
-use Rattle.plain_tables.specs.Shown.{shown_message}
-use Rattle.lab_core.specs.Cells.{opened_text}
-use Rattle.lab_core.specs.Relaying.{IsReply, Holds, NextIs, Sends}
+use Rattle.lab_core.proofs.Relayed.{gave, gave_fault, unread, first_frame, first_read}
 use Rattle.lab_core.proofs.relay.next_message.Goals as goal
 
--- src/relay.rt:24:1
 pub returns-in-Ok : goal.returns-in-Ok
-returns-in-Ok c = ?
+returns-in-Ok c messages h =
+    first_read c.in-Ok.message _ _ messages _ (first_frame _ _ _ messages (gave _ _ c.in-Ok-Some.field-0 _ c.in-Ok-Some.field-0-is c.in-Ok-Some.ensures) h) c.in-Ok.ensures.only
 
--- src/relay.rt:30:48
 pub unreachable-requires : goal.unreachable-requires
-unreachable-requires c = ?
+unreachable-requires c =
+    let h = c.requires in
+    unread c.in-Err-BodyFault.field-0 c.in-Err-BodyFault.field-0-0 _ _ h.0 _ c.in-Err-BodyFault.field-0-is (first_frame _ _ _ h.0 (gave _ _ c.in-Ok-Some.field-0 _ c.in-Ok-Some.field-0-is c.in-Ok-Some.ensures) h.1) c.in-Err-BodyFault.ensures.only
 
--- src/relay.rt:33:41
 pub unreachable-requires-in-Err-Frame : goal.unreachable-requires-in-Err-Frame
-unreachable-requires-in-Err-Frame c = ?
+unreachable-requires-in-Err-Frame c =
+    let h = c.requires in
+    gave_fault _ _ h.0 c.in-Err-Frame.field-0 c.in-Err-Frame.field-0-0 c.in-Err-Frame.field-0-1 c.in-Err-Frame.field-0-is c.in-Err-Frame.ensures h.1

@@ -1,26 +1,31 @@
-use Rattle.std.proofs.Common.{rules, ◌≡◌, ◌≤◌, List, ℕ, map, IfOk, OnErr, IsErrOf, ◌+◌, ◌-◌, ◌*◌, ◌<◌, length, ◌/◌, ◌%◌, Bool, true, false, nat_eq, nat_lt, [], ◌∷◌, ◌++◌, slice_index_or, slice_set, bit_and, bit_or, Fits, w8, w32, w64, Bor, MutBor}
-use Rattle.acra_base.specs.Causes.{Rose}
-use Rattle.pg_wire.specs.declared.back.Back.{Back as Message}
-use Rattle.pg_wire.specs.Backs.{back_frame}
-use Rattle.table_machine.specs.Told.{IsWritable}
-use Rattle.plain_tables.specs.Reply.{reply_bytes}
+use Rattle.std.proofs.Common.{arith}
 use Rattle.plain_tables.specs.Shown.{shown_message}
 use Rattle.lab_core.specs.Cells.{opened_text}
-use Rattle.lab_core.specs.Relaying.{IsReply, Holds, NextIs, Sends}
+use Rattle.lab_core.proofs.Relayed.{stopped, next_shown, one_more, breaks, smaller}
 use Rattle.lab_core.proofs.relay.relay.Goals as goal
 
--- src/relay.rt:82:23
 pub returns-in-Err-clause-sent : goal.returns-in-Err-clause-sent
-returns-in-Err-clause-sent g c = ?
+returns-in-Err-clause-sent g c messages h =
+    stopped (shown_message (opened_text (record { client = c.args.client.now; key = c.args.key.now })) c.args.protected.now) _ messages _ _ (c.messages.invariant.shown messages h)
 
--- src/relay.rt:80:5
 pub messages-smaller : goal.messages-smaller
-messages-smaller g c = ?
+messages-smaller g c =
+    let show = shown_message (opened_text (record { client = c.args.client.now; key = c.args.key.now })) c.args.protected.now in
+    let r = c.requires in
+    let n = next_shown show _ _ r.0 _ _ c.in-Ok-Some.field-0 c.in-Ok-Some.message (c.messages.invariant.shown r.0 r.1) c.in-Ok-Some.field-0-is c.in-Ok-Some.ensures in
+    smaller show _ _ r.0 _ _ c.in-Ok-Some.message n
 
--- src/relay.rt:80:5
 pub messages-preserved : goal.messages-preserved
-messages-preserved g c = ?
+messages-preserved g c = record {
+  shown = λ messages h.
+      let show = shown_message (opened_text (record { client = c.args.client.now; key = c.args.key.now })) c.args.protected.now in
+      let n = next_shown show _ _ messages _ _ c.in-Ok-Some.field-0 c.in-Ok-Some.message (c.messages.invariant.shown messages h) c.in-Ok-Some.field-0-is c.in-Ok-Some.ensures in
+      one_more show _ _ messages _ _ _ c.in-Ok-Some.message n c.in-Ok.ensures.sent;
+  later = omega (arith, c.messages.invariant.later, c.in-Ok.ensures.later);
+}
 
--- src/relay.rt:87:34
 pub returns-in-Err-send_shown-clause-sent : goal.returns-in-Err-send_shown-clause-sent
-returns-in-Err-send_shown-clause-sent g c = ?
+returns-in-Err-send_shown-clause-sent g c messages h =
+    let show = shown_message (opened_text (record { client = c.args.client.now; key = c.args.key.now })) c.args.protected.now in
+    let n = next_shown show _ _ messages _ _ c.in-Ok-Some.field-0 c.in-Ok-Some.message (c.messages.invariant.shown messages h) c.in-Ok-Some.field-0-is c.in-Ok-Some.ensures in
+    breaks show _ _ messages _ _ _ c.in-Ok-Some.message n c.in-Err-send_shown.ensures.sent

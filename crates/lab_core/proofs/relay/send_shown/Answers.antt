@@ -1,22 +1,18 @@
-use Rattle.std.proofs.Common.{rules, ◌≡◌, ◌≤◌, List, ℕ, map, IfOk, OnErr, IsErrOf, ◌+◌, ◌-◌, ◌*◌, ◌<◌, length, ◌/◌, ◌%◌, Bool, true, false, nat_eq, nat_lt, [], ◌∷◌, ◌++◌, slice_index_or, slice_set, bit_and, bit_or, Fits, w8, w32, w64, Bor, MutBor}
-use Rattle.acra_base.specs.Causes.{Rose}
-use Rattle.pg_wire.specs.declared.back.Back.{Back as Message}
-use Rattle.pg_wire.specs.Backs.{back_frame}
+use Rattle.std.proofs.Common.{◌≡◌, ◌++◌, ◌<◌, ◌+◌, ◌^◌, List, ℕ, length, sym, subst, ap, ◌∙◌}
+use Rattle.pg_wire.specs.declared.back.Back.{Back}
+use Rattle.pg_wire.specs.Backs.{IsBack, back_body, back_frame}
 use Rattle.table_machine.specs.Told.{IsWritable}
-use Rattle.plain_tables.specs.Reply.{reply_bytes}
-use Rattle.plain_tables.specs.Shown.{shown_message}
-use Rattle.lab_core.specs.Cells.{opened_text}
-use Rattle.lab_core.specs.Relaying.{IsReply, Holds, NextIs, Sends}
+use Rattle.lab_core.proofs.Showable.{shown_writable}
+use Rattle.lab_core.proofs.Relayed.{front_sent}
 use Rattle.lab_core.proofs.relay.send_shown.Goals as goal
 
--- src/relay.rt:55:5
 pub write_back-requires-clause-spelled : goal.write_back-requires-clause-spelled
-write_back-requires-clause-spelled g c = ?
+write_back-requires-clause-spelled g c =
+    (subst IsWritable (sym c.in_ok-shown.ensures) (shown_writable (record { client = c.args.client.now; key = c.args.key.now }) c.args.protected.now c.args.message c.requires)).spelled
 
--- src/relay.rt:55:5
 pub write_back-requires-clause-short : goal.write_back-requires-clause-short
-write_back-requires-clause-short g c = ?
+write_back-requires-clause-short g c =
+    (subst IsWritable (sym c.in_ok-shown.ensures) (shown_writable (record { client = c.args.client.now; key = c.args.key.now }) c.args.protected.now c.args.message c.requires)).short
 
--- src/relay.rt:38:1
 pub returns-clause-sent : goal.returns-clause-sent
-returns-clause-sent g c = ?
+returns-clause-sent g c = front_sent _ _ c.deref.result.now _ _ (c.deref.ensures.value ∙ c.in_ok-write_back.ensures.ok ∙ ap (λ (xs : List ℕ). xs ++ back_frame c.in_ok-shown.shown) c.new-frame.ensures.items ∙ ap back_frame c.in_ok-shown.ensures) c.in-Err.ensures.written

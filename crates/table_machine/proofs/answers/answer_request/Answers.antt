@@ -1,0 +1,11 @@
+use Rattle.std.proofs.Common.{refl}
+use Rattle.std.proofs.lemmas.Result.{on_ok_weaker}
+use Rattle.table_machine.proofs.Answered.{startup_replied}
+use Rattle.table_machine.proofs.answers.answer_request.Goals as goal
+
+pub returns-in-Startup-clause-ok : goal.returns-in-Startup-clause-ok
+returns-in-Startup-clause-ok c =
+    rw c.in-Startup.is
+    (on_ok_weaker c.write_startup.result
+    (λ h. startup_replied c.args.session c.in-Startup.params c.args.tables.now c.args.out.now.items c.write_startup.new.out.items h)
+    c.write_startup.ensures)

@@ -3,10 +3,13 @@
 //! At this stage the profile is two statements on the table `notes` with the columns `id` and `body`.
 #![tactic(auto)]
 
+mod cursor;
 mod fault;
 mod laws;
 mod printer;
+mod runs;
 mod statement;
+mod token;
 
 pub use fault::{ParseFault, SqlKind, SqlRefusal};
 pub use laws::{canonical_text_spells, one_reading};

@@ -4,3 +4,4 @@ pub mod Digits
 pub mod Printed
 pub mod Lexing
 pub mod Unique
+pub mod Fronts

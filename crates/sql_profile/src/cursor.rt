@@ -120,11 +120,10 @@ impl<'a> Cursor<'a> {
         }
     }
 
-    /// The next token, or `None` where the text is at its end.
-    pub fn next(&mut self, alloc: Global) -> Result<Option<Token>, ParseFault>
+    fn token(&mut self, alloc: Global) -> Result<Option<Token>, ParseFault>
+        requires { Stops is_space self.old }
         ensures { Next self.old result self.new }
     {
-        self.take_run(Run::Spaces);
         let [first, rest @ ..] = self.rest else {
             return Ok(None);
         };
@@ -144,5 +143,13 @@ impl<'a> Cursor<'a> {
             }
             Kind::Other => Err(ParseFault::OUTSIDE_PROFILE),
         }
+    }
+
+    /// The next token, or `None` where the text is at its end.
+    pub fn next(&mut self, alloc: Global) -> Result<Option<Token>, ParseFault>
+        ensures { Next self.old result self.new }
+    {
+        self.take_run(Run::Spaces);
+        self.token(alloc)
     }
 }

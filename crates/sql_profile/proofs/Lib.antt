@@ -5,3 +5,5 @@ pub mod Printed
 pub mod Lexing
 pub mod Unique
 pub mod Fronts
+pub mod Expecting
+pub mod Composing

@@ -40,3 +40,24 @@ Next old (Ok (Some token)) new = Takes old (token_of token ∷ []) new
 Next old (Ok None) new = Ends old
 Next old (Err faults.NoMemory) new = Unit {0}
 Next old (Err (faults.Refused refusal)) new = (refusal ≡ outside_profile) × Lacks old []
+
+-- the token that was read
+abbrev pub seen : Option read.Token → Option Token
+seen None = None
+seen (Some token) = Some (token_of token)
+
+-- what was looked for is next, or it isn't
+abbrev pub Expects : {V : Type 0} → (V → Type 0) → (V → List Token) → List ℕ → Result V ParseFault → List ℕ → Type 0
+Expects Is tokens old (Ok v) new = Is v × Takes old (tokens v) new
+Expects Is tokens old (Err faults.NoMemory) new = Unit {0}
+Expects {V} Is tokens old (Err (faults.Refused refusal)) new = (refusal ≡ outside_profile) × ((v : V) → Is v → Lacks old (tokens v))
+
+-- one of two tokens is next, and which, or neither is
+abbrev pub ExpectsEither : Token → Token → List ℕ → Result Bool ParseFault → List ℕ → Type 0
+ExpectsEither one other old (Ok true) new = Takes old (one ∷ []) new
+ExpectsEither one other old (Ok false) new = Takes old (other ∷ []) new
+ExpectsEither one other old (Err faults.NoMemory) new = Unit {0}
+ExpectsEither one other old (Err (faults.Refused refusal)) new = (refusal ≡ outside_profile) × Lacks old (one ∷ []) × Lacks old (other ∷ [])
+
+abbrev pub Always : Unit {0} → Type 0
+Always _ = Unit {0}

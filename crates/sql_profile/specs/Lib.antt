@@ -7,3 +7,4 @@ pub mod Runs
 pub mod Canonical
 pub mod Reading
 pub mod Cursor
+pub mod Pieces

@@ -4,8 +4,10 @@
 #![tactic(auto)]
 
 mod cursor;
+mod expect;
 mod fault;
 mod laws;
+mod parser;
 mod printer;
 mod runs;
 mod statement;

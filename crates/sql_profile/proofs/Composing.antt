@@ -101,7 +101,7 @@ row_lacks old go row h more l = go h.number h.text h.below h.no_zero more (subst
 
 pub insert_lacks : (old : List ℕ)
     → ((columns : Option (List (List ℕ))) → AreColumns columns → (row : List Operand) → IsRow row → (more : List Token)
-      → Lexes old (Token.Word (codes "into") ∷ Token.Word notes ∷ (headed columns ++ (row_tokens row ++ more))) → ⊥)
+    → Lexes old (Token.Word (codes "into") ∷ Token.Word notes ∷ (headed columns ++ (row_tokens row ++ more))) → ⊥)
     → (tree : Statement) → IsInsert tree → Lacks old (tokens_behind tree)
 insert_lacks old go (statement.Select table items) h more l = absurd h
 insert_lacks old go (statement.Insert table columns []) h more l = absurd h.2
@@ -114,7 +114,7 @@ pub takes_insert : (old one two three new table : List ℕ) (columns : Option (L
     → Takes two (headed columns) three → Takes three (row_tokens row) new → Takes old (tokens_behind (statement.Insert table columns (row ∷ []))) new
 takes_insert old one two three new table columns row a b c d =
     let e = sym (append-nil (tokens_behind (statement.Insert table columns (row ∷ [])))) ∙ insert_behind table columns row []
-      ∙ ap (λ ts. Token.Word (codes "into") ∷ Token.Word table ∷ (headed columns ++ ts)) (append-nil (row_tokens row)) in
+    ∙ ap (λ ts. Token.Word (codes "into") ∷ Token.Word table ∷ (headed columns ++ ts)) (append-nil (row_tokens row)) in
     subst (λ ts. Takes old ts new) (sym e)
     (takes_then old one new _ _ a (takes_then one two new _ _ b (takes_then two three new _ _ c d)))
 

@@ -7,3 +7,4 @@ pub mod Unique
 pub mod Fronts
 pub mod Expecting
 pub mod Composing
+pub mod Whole

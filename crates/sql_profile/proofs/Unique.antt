@@ -38,7 +38,7 @@ one_headed None (Some names) x y p q e = cc
 one_headed (Some names) None x y p q e = cc
 one_headed (Some names) (Some others) x y p q e =
     let f : headed (Some (id ∷ body ∷ [])) ++ x ≡ headed (Some (id ∷ body ∷ [])) ++ y =
-      ap (λ (ns : List (List ℕ)). headed (Some ns) ++ x) (sym p) ∙ e ∙ ap (λ (ns : List (List ℕ)). headed (Some ns) ++ y) q in
+    ap (λ (ns : List (List ℕ)). headed (Some ns) ++ x) (sym p) ∙ e ∙ ap (λ (ns : List (List ℕ)). headed (Some ns) ++ y) q in
     (ap Some (p ∙ sym q), cc)
 
 pub one_row : (xs ys : List Operand) (x y : List Token) → IsRow xs → IsRow ys → row_tokens xs ++ x ≡ row_tokens ys ++ y → (xs ≡ ys) × (x ≡ y)

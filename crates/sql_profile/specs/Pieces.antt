@@ -1,5 +1,5 @@
 -- The pieces of a statement, each of which ends where its tokens say.
-use Rattle.std.specs.Prelude.{ℕ, pos, ◌≡◌, ◌^◌, ◌<◌, ◌⊎◌, List, [], ◌∷◌, ◌++◌, codes, Contains, Option}
+use Rattle.std.specs.Prelude.{ℕ, pos, ◌≡◌, ◌^◌, ◌<◌, ◌⊎◌, List, [], ◌∷◌, ◌++◌, codes, Contains, Option, Result, Ok, Err}
 use Rattle.sql_profile.specs.declared.statement.Operand.{Operand}
 use Rattle.sql_profile.specs.declared.statement.Operand.TheVariants as operand
 use Rattle.sql_profile.specs.declared.statement.Item.{Item}
@@ -7,7 +7,10 @@ use Rattle.sql_profile.specs.declared.statement.Items.TheVariants as select
 use Rattle.sql_profile.specs.declared.statement.Statement.{Statement}
 use Rattle.sql_profile.specs.declared.statement.Statement.TheVariants as statement
 use Rattle.sql_profile.specs.Tree.{AreItems, AreColumns, notes}
-use Rattle.sql_profile.specs.Tokens.{Token}
+use Rattle.sql_profile.specs.declared.fault.ParseFault.{ParseFault}
+use Rattle.sql_profile.specs.declared.fault.ParseFault.TheVariants as faults
+use Rattle.sql_profile.specs.Tokens.{Token, Lexes}
+use Rattle.sql_profile.specs.Reading.{outside_profile}
 use Rattle.sql_profile.specs.Grammar.{listed, in_parentheses, value_tokens, list_tokens, tokens_of}
 
 -- the columns of a SELECT, with FROM
@@ -52,3 +55,9 @@ without_first (t ∷ ts) = ts
 
 abbrev pub tokens_behind : Statement → List Token
 tokens_behind tree = without_first (tokens_of tree)
+
+-- the text is all of a statement's tokens, or of no statement's
+abbrev pub ReadsWhole : List ℕ → Result Statement ParseFault → Type 0
+ReadsWhole text (Ok tree) = IsRead tree × Lexes text (tokens_of tree)
+ReadsWhole text (Err faults.NoMemory) = Unit {0}
+ReadsWhole text (Err (faults.Refused refusal)) = (refusal ≡ outside_profile) × ((tree : Statement) → IsRead tree → Lexes text (tokens_of tree) → ⊥)

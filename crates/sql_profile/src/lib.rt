@@ -15,5 +15,6 @@ mod token;
 
 pub use fault::{ParseFault, SqlKind, SqlRefusal};
 pub use laws::{canonical_text_spells, one_reading};
+pub use parser::parse;
 pub use printer::print;
 pub use statement::{Item, Items, Operand, Statement};

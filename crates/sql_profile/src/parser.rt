@@ -1,14 +1,13 @@
 //! The grammar, over the tokens of a text.
 
-ghost use Rattle.std.specs.Prelude.{◌≡◌, ◌≤◌, length, IfOk, IfErr, List};
-ghost use Rattle.sql_profile.specs.declared.statement.Statement.{Statement as Tree};
+ghost use Rattle.std.specs.Prelude.{◌≡◌, ◌≤◌, ◌∷◌, [], length, IfOk, IfErr, List};
+ghost use Rattle.sql_profile.specs.declared.statement.Statement.{Statement};
 ghost use Rattle.sql_profile.specs.Tree.{AreItems, AreColumns, IsItem};
 ghost use Rattle.sql_profile.specs.Tokens as tokens;
 ghost use Rattle.sql_profile.specs.Grammar.{Spells, tokens_of};
-ghost use Rattle.sql_profile.specs.Pieces.{selected, headed, row_tokens, IsRow, IsSelect, IsInsert, IsRead, tokens_behind};
+ghost use Rattle.sql_profile.specs.Pieces.{selected, headed, row_tokens, IsRow, IsSelect, IsInsert, IsRead, tokens_behind, ReadsWhole};
 ghost use Rattle.sql_profile.specs.Cursor.{Expects};
 ghost use Rattle.sql_profile.specs.Reading.{ReadsAs, IsParseFault};
-ghost use Rattle.std.specs.Prelude.{◌∷◌, []};
 
 use crate::cursor::Cursor;
 use crate::expect::{
@@ -109,4 +108,32 @@ fn take_statement(cursor: &mut Cursor<'_>, alloc: Global) -> Result<Statement, P
         return take_insert(cursor, alloc);
     }
     Err(ParseFault::OUTSIDE_PROFILE)
+}
+
+fn take_whole(cursor: &mut Cursor<'_>, alloc: Global) -> Result<Statement, ParseFault>
+    ensures { ReadsWhole cursor.old result }
+{
+    let tree = take_statement(cursor, alloc)?;
+    match cursor.next(alloc)? {
+        None => Ok(tree),
+        Some(_) => Err(ParseFault::OUTSIDE_PROFILE),
+    }
+}
+
+/// The statement that the text spells. Texts longer than `limit` are refused.
+///
+/// Each refusal is that of the whole text, at place 0. The time grows linearly with the text.
+pub fn parse(alloc: Global, text: &[u8], limit: u32) -> Result<Statement, ParseFault>
+    // What is found is spelled.
+    ensures found { IfOk result (λ tree. Spells text.now tree × (length text.now ≤ limit)) }
+
+    // What is spelled is found, unless there is no memory.
+    ensures only { (tree : Statement) → Spells text.now tree → length text.now ≤ limit → ReadsAs result tree }
+    ensures refused { IfErr result IsParseFault }
+{
+    if text.len() > limit as usize || str::from_utf8(text).is_err() {
+        return Err(ParseFault::OUTSIDE_PROFILE);
+    }
+    let mut cursor = Cursor::new(text);
+    take_whole(&mut cursor, alloc)
 }

@@ -24,6 +24,6 @@ returns-in_err-row c =
     let table = takes_word _ _ _ notes c.in_ok-table.ensures in
     fails_on IsRow row_tokens IsInsert tokens_behind c.take_columns.new.cursor _ _ _ _ _ c.from_residual-in_err-row.ensures.1 c.in_err-row.ensures
     (λ lacks. insert_lacks _ (λ columns h row k more l.
-      lacks row k more
-      (behind_piece AreColumns headed one_headed _ _ _ columns _ c.in_ok-columns.ensures.0 c.in_ok-columns.ensures.1 h
-      (skip _ _ _ _ table (skip _ _ _ _ c.in_ok-take_word.ensures.1 l)))))
+    lacks row k more
+    (behind_piece AreColumns headed one_headed _ _ _ columns _ c.in_ok-columns.ensures.0 c.in_ok-columns.ensures.1 h
+    (skip _ _ _ _ table (skip _ _ _ _ c.in_ok-take_word.ensures.1 l)))))

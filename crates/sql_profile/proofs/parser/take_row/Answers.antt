@@ -14,16 +14,16 @@ pub returns-in_err-take_sign-2 : goal.returns-in_err-take_sign-2
 returns-in_err-take_sign-2 c =
     fails_on Always (λ _. Token.Sign 44 ∷ []) IsRow row_tokens c.take_number.new.cursor _ _ _ _ _ c.from_residual-in_err-take_sign-2.ensures.1 c.in_err-take_sign-2.ensures
     (λ lacks. row_lacks _ (λ n text below no_zero more l.
-      let one = skip _ _ _ _ c.in_ok-take_sign.ensures.1 l in
-      let two = (follow _ _ _ _ _ c.in_ok-take_number.ensures.1 one).1 in
-      lacks tt tt _ two))
+    let one = skip _ _ _ _ c.in_ok-take_sign.ensures.1 l in
+    let two = (follow _ _ _ _ _ c.in_ok-take_number.ensures.1 one).1 in
+    lacks tt tt _ two))
 
 pub returns-in_err-take_sign-3 : goal.returns-in_err-take_sign-3
 returns-in_err-take_sign-3 c =
     fails_on Always (λ _. Token.Sign 41 ∷ []) IsRow row_tokens c.take_text.new.cursor _ _ _ _ _ c.from_residual-in_err-take_sign-3.ensures.1 c.in_err-take_sign-3.ensures
     (λ lacks. row_lacks _ (λ n text below no_zero more l.
-      let one = skip _ _ _ _ c.in_ok-take_sign.ensures.1 l in
-      let two = (follow _ _ _ _ _ c.in_ok-take_number.ensures.1 one).1 in
-      let three = skip _ _ _ _ c.in_ok-take_sign-2.ensures.1 two in
-      let four = (follow _ _ _ _ _ c.in_ok-take_text.ensures.1 three).1 in
-      lacks tt tt _ four))
+    let one = skip _ _ _ _ c.in_ok-take_sign.ensures.1 l in
+    let two = (follow _ _ _ _ _ c.in_ok-take_number.ensures.1 one).1 in
+    let three = skip _ _ _ _ c.in_ok-take_sign-2.ensures.1 two in
+    let four = (follow _ _ _ _ _ c.in_ok-take_text.ensures.1 three).1 in
+    lacks tt tt _ four))

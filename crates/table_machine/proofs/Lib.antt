@@ -4,6 +4,7 @@ pub mod Tokens
 pub mod Told
 pub mod Stays
 pub mod Appended
+pub mod Carried
 pub mod Owed
 pub mod Taking
 pub mod Answered

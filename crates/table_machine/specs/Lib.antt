@@ -4,3 +4,4 @@ pub mod Replies
 pub mod Backend
 pub mod Told
 pub mod Serving
+pub mod Carry

@@ -7,6 +7,7 @@
 mod answers;
 mod backend;
 mod cell;
+mod laws;
 mod outcome;
 mod replies;
 mod requests;
@@ -15,5 +16,6 @@ mod tables;
 
 pub use backend::LabBackend;
 pub use cell::Cell;
+pub use laws::{cells_are_carried, texts_are_read_back};
 pub use outcome::{LabFault, OutColumn, Outcome};
 pub use tables::Tables;

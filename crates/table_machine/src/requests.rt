@@ -3,8 +3,7 @@ ghost use Rattle.pg_wire.specs.declared.frame.Side.TheVariants as side;
 ghost use Rattle.table_machine.specs.Serving.{ReadsRequest, TakesRequest};
 
 use acra_base::NoMemory;
-use pg_wire::stub_read_front as read_front;
-use pg_wire::{Frame, Framer, Front, NextFault, ReadBody};
+use pg_wire::{Frame, Framer, Front, NextFault, ReadBody, read_front};
 use std::alloc::Global;
 
 /// What stands first in a stream.

@@ -10,7 +10,7 @@ use Rattle.pg_wire.specs.Streams.{Stream, GivesFrame}
 gives_frame_of : (who : Side) (limit : ℕ) (opening : Bool) (offset start kind : ℕ) (buffer body rest : List ℕ) (size : ℕ)
     → IsFrame who limit opening kind body → drop start buffer ≡ frame_bytes kind body ++ rest → size ≡ length (frame_bytes kind body)
     → GivesFrame (record { who = who; limit = limit; opening = opening; offset = offset; left = drop start buffer }) (record { offset = offset; kind = kind; body = body })
-      (record { who = who; limit = limit; opening = opening && asks_encryption body; offset = (offset + size) % 2 ^ 64; left = drop (start + size) buffer })
+    (record { who = who; limit = limit; opening = opening && asks_encryption body; offset = (offset + size) % 2 ^ 64; left = drop (start + size) buffer })
 gives_frame_of who limit opening offset start kind buffer body rest size is parts size-is =
     let behind : drop (start + size) buffer ≡ rest = sym (drop-drop size start buffer) ∙ ap (drop size) parts ∙ drop_at (frame_bytes kind body) rest size (sym size-is) in record {
       rest = rest;
@@ -24,13 +24,13 @@ pub gives_frame : (s : Stream) (who : Side) (limit : ℕ) (opening : Bool) (offs
     → record { who = who; limit = limit; opening = opening; offset = offset; left = drop start buffer } ≡ s → bytes ≡ buffer
     → IsFrame who limit opening kind body → take (length bytes - start) (drop start bytes) ≡ frame_bytes kind body ++ rest → copy ≡ body → still ≡ (opening && asks_encryption body)
     → GivesFrame s (record { offset = offset; kind = kind; body = copy })
-      (record {
-        who = who;
-        limit = limit;
-        opening = still;
-        offset = (offset + (length (take (length bytes - start) (drop start bytes)) - length rest)) % 2 ^ 64;
-        left = drop (start + (length (take (length bytes - start) (drop start bytes)) - length rest)) buffer;
-      })
+    (record {
+      who = who;
+      limit = limit;
+      opening = still;
+      offset = (offset + (length (take (length bytes - start) (drop start bytes)) - length rest)) % 2 ^ 64;
+      left = drop (start + (length (take (length bytes - start) (drop start bytes)) - length rest)) buffer;
+    })
 gives_frame s who limit opening offset start kind buffer bytes body copy rest still s-is bytes-is is parts copy-is still-is =
     let left = take (length bytes - start) (drop start bytes) in
     let whole : drop start buffer ≡ frame_bytes kind body ++ rest = sym (take_rest bytes start ∙ ap (drop start) bytes-is) ∙ parts in

@@ -91,7 +91,7 @@ ended_takes {A} item spell Fits is (suc n) (suc c ∷ bytes) x fits e =
     let regrouped : spell a.0.0 ++ listed_items spell b.0.0 ≡ listed_items spell (a.0.0 ∷ b.0.0) = sym (append_assoc (spell a.0.0) (flat_map spell b.0.0) (0 ∷ [])) in
     let made : List A × List ℕ = (a.0.0 ∷ b.0.0, b.0.1) in
     subst (λ (y : List A × List ℕ). Takes (suc c ∷ bytes) (listed_items spell y.0) y.1 × AllByRecursion Fits y.0) (ok_is made x b.2)
-      (subst (λ (t : List ℕ). Takes (suc c ∷ bytes) t b.0.1) regrouped both, (first.1, second.1))
+    (subst (λ (t : List ℕ). Takes (suc c ∷ bytes) t b.0.1) regrouped both, (first.1, second.1))
 
 pub listed_takes : {A : Type 0} (item : List ℕ → Result (A × List ℕ) ℕ) (spell : A → List ℕ) (Fits : A → Type 0) → IsListed item spell Fits
     → (bytes : List ℕ) (x : List A × List ℕ) → IsBytes bytes → listed_at item bytes ≡ Ok x → Takes bytes (listed_items spell x.0) x.1 × AllByRecursion Fits x.0
@@ -120,4 +120,4 @@ pub listed_again : {A : Type 0} (item : List ℕ → Result (A × List ℕ) ℕ)
     → (xs : List A) (rest : List ℕ) → AllByRecursion Fits xs → listed_at item (listed_items spell xs ++ rest) ≡ Ok (xs, rest)
 listed_again item spell Fits is xs rest fits =
     ended_again item spell Fits is (length (listed_items spell xs ++ rest)) xs rest fits
-      (omega (arith, length_listed item spell Fits is xs fits, length-append (listed_items spell xs) rest, length-append (flat_map spell xs) (0 ∷ [])))
+    (omega (arith, length_listed item spell Fits is xs fits, length-append (listed_items spell xs) rest, length-append (flat_map spell xs) (0 ∷ [])))

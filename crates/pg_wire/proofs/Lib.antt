@@ -9,3 +9,4 @@ pub mod Items
 pub mod RowLaws
 pub mod Messages
 pub mod Within
+pub mod Readings

@@ -41,8 +41,8 @@ arm_of : {A M : Type 0} {IsM : M → Type 0} {kind_of : M → ℕ} {body_of : M 
 arm_of {A} {M} {IsM} {kind_of} {body_of} k body made read h = record { spells = by } where
   by : (x : M × List ℕ) → mapped made read ≡ Ok x → IsM x.0 × (k ≡ kind_of x.0) × Takes body (body_of x.0) x.1
   by x e =
-    let a = bind_ok read (λ y. Ok (made y.0, y.1)) x e in
-    subst (λ (y : M × List ℕ). IsM y.0 × (k ≡ kind_of y.0) × Takes body (body_of y.0) y.1) (ok_is (made a.0.0, a.0.1) x a.2) (h a.0 a.1)
+      let a = bind_ok read (λ y. Ok (made y.0, y.1)) x e in
+      subst (λ (y : M × List ℕ). IsM y.0 × (k ≡ kind_of y.0) × Takes body (body_of y.0) y.1) (ok_is (made a.0.0, a.0.1) x a.2) (h a.0 a.1)
 
 alone_is : {M : Type 0} (x : M × List ℕ) (m : M) → alone x ≡ Ok m → (x.1 ≡ []) × (x.0 ≡ m)
 alone_is {M} x m e = by (eqb (length x.1) 0) (eqb-true _ _) e where
@@ -69,22 +69,22 @@ unfolding auth_at
 auth_arm body fits = record { spells = by } where
   by : (x : Back × List ℕ) → (number_at w32 body >>= λ code. Ok (backs.Auth code.0 code.1, [])) ≡ Ok x → IsBack x.0 × (82 ≡ back_kind x.0) × Takes body (back_body x.0) x.1
   by x e =
-    let a = bind_ok (number_at w32 body) (λ code. Ok (backs.Auth code.0 code.1, [])) x e in
-    let t = number_takes w32 (2 ^ 32) wide32 body a.0 fits a.1 in
-    let all : Takes body (to_be_bytes w32 a.0.0 ++ a.0.1) [] = record { parts = t.0.parts ∙ sym (append-nil _); rest_fits = λ i. omega arith } in
-    subst (λ (y : Back × List ℕ). IsBack y.0 × (82 ≡ back_kind y.0) × Takes body (back_body y.0) y.1) (ok_is (backs.Auth a.0.0 a.0.1, []) x a.2) (t.1, refl, all)
+      let a = bind_ok (number_at w32 body) (λ code. Ok (backs.Auth code.0 code.1, [])) x e in
+      let t = number_takes w32 (2 ^ 32) wide32 body a.0 fits a.1 in
+      let all : Takes body (to_be_bytes w32 a.0.0 ++ a.0.1) [] = record { parts = t.0.parts ∙ sym (append-nil _); rest_fits = λ i. omega arith } in
+      subst (λ (y : Back × List ℕ). IsBack y.0 × (82 ≡ back_kind y.0) × Takes body (back_body y.0) y.1) (ok_is (backs.Auth a.0.0 a.0.1, []) x a.2) (t.1, refl, all)
 
 key_data_arm : (body : List ℕ) → IsBytes body → BackArm 75 body (key_data_at body)
 unfolding key_data_at
 key_data_arm body fits = record { spells = by } where
   by : (x : Back × List ℕ) → (number_at w32 body >>= λ process. number_at w32 process.1 >>= λ key. Ok (backs.KeyData process.0 key.0, key.1)) ≡ Ok x → IsBack x.0 × (75 ≡ back_kind x.0) × Takes body (back_body x.0) x.1
   by x e =
-    let a = bind_ok (number_at w32 body) (λ process. number_at w32 process.1 >>= λ key. Ok (backs.KeyData process.0 key.0, key.1)) x e in
-    let b = bind_ok (number_at w32 a.0.1) (λ key. Ok (backs.KeyData a.0.0 key.0, key.1)) x a.2 in
-    let t = number_takes w32 (2 ^ 32) wide32 body a.0 fits a.1 in
-    let u = number_takes w32 (2 ^ 32) wide32 a.0.1 b.0 t.0.rest_fits b.1 in
-    let all = Takes-then body (to_be_bytes w32 a.0.0) a.0.1 (to_be_bytes w32 b.0.0) b.0.1 t.0 u.0 in
-    subst (λ (y : Back × List ℕ). IsBack y.0 × (75 ≡ back_kind y.0) × Takes body (back_body y.0) y.1) (ok_is (backs.KeyData a.0.0 b.0.0, b.0.1) x b.2) ((t.1, u.1), refl, all)
+      let a = bind_ok (number_at w32 body) (λ process. number_at w32 process.1 >>= λ key. Ok (backs.KeyData process.0 key.0, key.1)) x e in
+      let b = bind_ok (number_at w32 a.0.1) (λ key. Ok (backs.KeyData a.0.0 key.0, key.1)) x a.2 in
+      let t = number_takes w32 (2 ^ 32) wide32 body a.0 fits a.1 in
+      let u = number_takes w32 (2 ^ 32) wide32 a.0.1 b.0 t.0.rest_fits b.1 in
+      let all = Takes-then body (to_be_bytes w32 a.0.0) a.0.1 (to_be_bytes w32 b.0.0) b.0.1 t.0 u.0 in
+      subst (λ (y : Back × List ℕ). IsBack y.0 × (75 ≡ back_kind y.0) × Takes body (back_body y.0) y.1) (ok_is (backs.KeyData a.0.0 b.0.0, b.0.1) x b.2) ((t.1, u.1), refl, all)
 
 abbrev is_state : ℕ → Bool
 is_state b = (eqb b 73 || eqb b 84) || eqb b 69
@@ -175,12 +175,12 @@ startup_takes : (body : List ℕ) (len : ℕ) (code : ℕ × List ℕ) → Takes
 startup_takes body len code t x e = by (eqb code.0 196608) (eqb-true _ _) e where
   by : (b : Bool) → (b ≡ true → code.0 ≡ 196608) → cond b (mapped fronts.Startup (listed_at pair_at code.1)) (Err len) ≡ Ok x → IsFront x.0 × (0 ≡ front_kind x.0) × Takes body (front_body x.0) x.1
   by true same h =
-    let a = bind_ok (listed_at pair_at code.1) (λ y. Ok (fronts.Startup y.0, y.1)) x h in
-    let u = listed_takes pair_at pair_bytes IsParam param_item code.1 a.0 t.rest_fits a.1 in
-    let first : Takes body (to_be_bytes w32 196608) code.1 = subst (λ (n : ℕ). Takes body (to_be_bytes w32 n) code.1) (same refl) t in
-    let both = Takes-then body (to_be_bytes w32 196608) code.1 (listed_items pair_bytes a.0.0) a.0.1 first u.0 in
-    let regrouped : to_be_bytes w32 196608 ++ listed_items pair_bytes a.0.0 ≡ front_body (fronts.Startup a.0.0) = sym (append_assoc (to_be_bytes w32 196608) (flat_map pair_bytes a.0.0) (0 ∷ [])) in
-    subst (λ (y : Front × List ℕ). IsFront y.0 × (0 ≡ front_kind y.0) × Takes body (front_body y.0) y.1) (ok_is (fronts.Startup a.0.0, a.0.1) x a.2) (u.1, refl, subst (λ (w : List ℕ). Takes body w a.0.1) regrouped both)
+      let a = bind_ok (listed_at pair_at code.1) (λ y. Ok (fronts.Startup y.0, y.1)) x h in
+      let u = listed_takes pair_at pair_bytes IsParam param_item code.1 a.0 t.rest_fits a.1 in
+      let first : Takes body (to_be_bytes w32 196608) code.1 = subst (λ (n : ℕ). Takes body (to_be_bytes w32 n) code.1) (same refl) t in
+      let both = Takes-then body (to_be_bytes w32 196608) code.1 (listed_items pair_bytes a.0.0) a.0.1 first u.0 in
+      let regrouped : to_be_bytes w32 196608 ++ listed_items pair_bytes a.0.0 ≡ front_body (fronts.Startup a.0.0) = sym (append_assoc (to_be_bytes w32 196608) (flat_map pair_bytes a.0.0) (0 ∷ [])) in
+      subst (λ (y : Front × List ℕ). IsFront y.0 × (0 ≡ front_kind y.0) × Takes body (front_body y.0) y.1) (ok_is (fronts.Startup a.0.0, a.0.1) x a.2) (u.1, refl, subst (λ (w : List ℕ). Takes body w a.0.1) regrouped both)
   by false same h = absurd cc
 
 startup_arm : (body : List ℕ) → IsBytes body → FrontArm 0 body (startup_at body)
@@ -188,8 +188,8 @@ unfolding startup_at
 startup_arm body fits = record { spells = by } where
   by : (x : Front × List ℕ) → (number_at w32 body >>= behind_code (length body)) ≡ Ok x → IsFront x.0 × (0 ≡ front_kind x.0) × Takes body (front_body x.0) x.1
   by x e =
-    let a = bind_ok (number_at w32 body) (behind_code (length body)) x e in
-    startup_takes body (length body) a.0 (number_takes w32 (2 ^ 32) wide32 body a.0 fits a.1).0 x a.2
+      let a = bind_ok (number_at w32 body) (behind_code (length body)) x e in
+      startup_takes body (length body) a.0 (number_takes w32 (2 ^ 32) wide32 body a.0 fits a.1).0 x a.2
 
 terminate_arm : (body : List ℕ) → IsBytes body → FrontArm 88 body (Ok (fronts.Terminate, body))
 terminate_arm body fits = record { spells = λ x e. subst (λ (y : Front × List ℕ). IsFront y.0 × (88 ≡ front_kind y.0) × Takes body (front_body y.0) y.1) (ok_is (fronts.Terminate, body) x e) (tt, refl, record { parts = refl; rest_fits = fits }) }

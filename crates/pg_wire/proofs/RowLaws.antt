@@ -112,11 +112,11 @@ field_takes bytes x fits e =
     let ua = Takes-then bytes (str a.0.0) a.0.1 pb h.0.1 ta.0 ub in
     let made : Field = record { name = a.0.0; table = b.0.0; attribute = c.0.0; kind = d.0.0; size = cast_signed w16 f.0.0; modifier = cast_signed w32 g.0.0; format = h.0.0 } in
     let spelled : column a.0.0 b.0.0 c.0.0 d.0.0 f.0.0 g.0.0 h.0.0 ≡ field_bytes made =
-      ap (λ (n : ℕ). column a.0.0 b.0.0 c.0.0 d.0.0 n g.0.0 h.0.0) (sym (of_z-to_z w16 f.0.0 tf.1)) ∙ ap (λ (n : ℕ). column a.0.0 b.0.0 c.0.0 d.0.0 (cast_unsigned w16 made.size) n h.0.0) (sym (of_z-to_z w32 g.0.0 tg.1)) ∙ column_is made in
+    ap (λ (n : ℕ). column a.0.0 b.0.0 c.0.0 d.0.0 n g.0.0 h.0.0) (sym (of_z-to_z w16 f.0.0 tf.1)) ∙ ap (λ (n : ℕ). column a.0.0 b.0.0 c.0.0 d.0.0 (cast_unsigned w16 made.size) n h.0.0) (sym (of_z-to_z w32 g.0.0 tg.1)) ∙ column_is made in
     let whole : Takes bytes (field_bytes made) h.0.1 = subst (λ (t : List ℕ). Takes bytes t h.0.1) spelled ua in
     let pair : Field × List ℕ = (made, h.0.1) in
     subst (λ (y : Field × List ℕ). Takes bytes (field_bytes y.0) y.1 × IsField y.0) (ok_is pair x h.2)
-      (whole, record { name = ta.1; table = tb.1; attribute = tc.1; kind = td.1; size = fits16 f.0.0 tf.1; modifier = fits32 g.0.0 tg.1; format = th.1 })
+    (whole, record { name = ta.1; table = tb.1; attribute = tc.1; kind = td.1; size = fits16 f.0.0 tf.1; modifier = fits32 g.0.0 tg.1; format = th.1 })
 
 field_again : (f : Field) (rest : List ℕ) → IsField f → field_at (field_bytes f ++ rest) ≡ Ok (f, rest)
 unfolding field_at
@@ -130,7 +130,7 @@ field_again f rest is =
     let r2 = to_be_bytes w16 f.attribute ++ r3 in
     let r1 = to_be_bytes w32 f.table ++ r2 in
     let regrouped : field_bytes f ++ rest ≡ str f.name ++ r1 =
-      regroup8 (str f.name) (to_be_bytes w32 f.table) (to_be_bytes w16 f.attribute) (to_be_bytes w32 f.kind) (to_be_bytes w16 size) (to_be_bytes w32 modifier) (to_be_bytes w16 f.format) rest in
+    regroup8 (str f.name) (to_be_bytes w32 f.table) (to_be_bytes w16 f.attribute) (to_be_bytes w32 f.kind) (to_be_bytes w16 size) (to_be_bytes w32 modifier) (to_be_bytes w16 f.format) rest in
     let e0 : str_at (field_bytes f ++ rest) ≡ Ok (f.name, r1) = ap str_at regrouped ∙ str_again f.name r1 is.name in
     let e1 = number_again w32 (2 ^ 32) wide32 f.table r2 is.table in
     let e2 = number_again w16 (2 ^ 16) wide16 f.attribute r3 is.attribute in

@@ -52,7 +52,7 @@ pair_within : (bytes : List ℕ) → Within (length bytes) (pair_at bytes)
 unfolding pair_at
 pair_within bytes =
     within_bind (length bytes) (str_at bytes) (λ name. str_at name.1 >>= λ value. Ok (record { name = name.0; value = value.0 }, value.1)) (str_within bytes)
-      (λ name. within_bind (length name.1) (str_at name.1) (λ value. Ok (record { name = name.0; value = value.0 }, value.1)) (str_within name.1) (λ value. omega arith))
+    (λ name. within_bind (length name.1) (str_at name.1) (λ value. Ok (record { name = name.0; value = value.0 }, value.1)) (str_within name.1) (λ value. omega arith))
 
 format_within : (bytes : List ℕ) → Within (length bytes) (format_at bytes)
 unfolding format_at
@@ -77,8 +77,8 @@ unfolding cell_at
 cell_within bytes = by (number_at w32 bytes) (number_within w32 bytes) where
   by : (r : Result (ℕ × List ℕ) ℕ) → Within (length bytes) r → Within (length bytes) (r >>= cell_behind (length bytes))
   by (Ok n) h =
-    let cell = within_more (length n.1) (length bytes) (bytes_at n.0 n.1 >>= some_cell) h (within_bind (length n.1) (bytes_at n.0 n.1) some_cell (bytes_within n.0 n.1) (λ c. omega arith)) in
-    within_cond (length bytes) (eqb n.0 4294967295) (Ok (None, n.1)) (sized_cell (length bytes) n) h
+      let cell = within_more (length n.1) (length bytes) (bytes_at n.0 n.1 >>= some_cell) h (within_bind (length n.1) (bytes_at n.0 n.1) some_cell (bytes_within n.0 n.1) (λ c. omega arith)) in
+      within_cond (length bytes) (eqb n.0 4294967295) (Ok (None, n.1)) (sized_cell (length bytes) n) h
       (within_cond (length bytes) (ltb n.0 (2 ^ 31)) (bytes_at n.0 n.1 >>= some_cell) (Err (length bytes)) cell (omega arith))
   by (Err left) h = h
 
@@ -87,7 +87,7 @@ unfolding error_at
 error_within [] = omega arith
 error_within (code ∷ bytes) =
     within_more (length bytes) (length (code ∷ bytes)) (str_at bytes >>= λ text. Ok (record { code = code; text = text.0 }, text.1)) (omega arith)
-      (within_bind (length bytes) (str_at bytes) (λ text. Ok (record { code = code; text = text.0 }, text.1)) (str_within bytes) (λ text. omega arith))
+    (within_bind (length bytes) (str_at bytes) (λ text. Ok (record { code = code; text = text.0 }, text.1)) (str_within bytes) (λ text. omega arith))
 
 state_within : (bytes : List ℕ) → Within (length bytes) (state_at bytes)
 unfolding state_at
@@ -169,7 +169,7 @@ unfolding startup_at
 startup_within bytes = by (number_at w32 bytes) (number_within w32 bytes) where
   by : (r : Result (ℕ × List ℕ) ℕ) → Within (length bytes) r → Within (length bytes) (r >>= λ code. cond (eqb code.0 196608) (mapped fronts.Startup (listed_at pair_at code.1)) (Err (length bytes)))
   by (Ok code) h =
-    within_cond (length bytes) (eqb code.0 196608) (mapped fronts.Startup (listed_at pair_at code.1)) (Err (length bytes))
+      within_cond (length bytes) (eqb code.0 196608) (mapped fronts.Startup (listed_at pair_at code.1)) (Err (length bytes))
       (within_more (length code.1) (length bytes) (mapped fronts.Startup (listed_at pair_at code.1)) h (within_mapped (length code.1) fronts.Startup (listed_at pair_at code.1) (listed_within pair_at pair_within code.1))) (omega arith)
   by (Err left) h = h
 

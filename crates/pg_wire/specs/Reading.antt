@@ -1,5 +1,5 @@
 -- What reading a frame answers, by what the frame spells.
-use Rattle.std.specs.Prelude.{◌≡◌, ℕ, List, Result, Ok, Err}
+use Rattle.std.specs.Prelude.{◌≡◌, ◌+◌, ℕ, List, length, Result, Ok, Err}
 use Rattle.pg_wire.specs.declared.front.Front.{Front}
 use Rattle.pg_wire.specs.declared.back.Back.{Back}
 use Rattle.pg_wire.specs.declared.frame.ReadBody.{ReadBody}
@@ -19,3 +19,9 @@ abbrev pub ReadsAs : {M : Type 0} → Result M ReadBody → M → Type 0
 ReadsAs (Ok found) m = found ≡ m
 ReadsAs (Err read.NoMemory) m = Unit {0}
 ReadsAs (Err (read.BodyFault offset)) m = ⊥
+
+-- exactly what reading the body gives, unless there is no memory; a fault's offset is where so many bytes are left
+abbrev pub ReadsExactly : {M : Type 0} → List ℕ → Result M ReadBody → Result M ℕ → Type 0
+ReadsExactly body (Ok m) reading = reading ≡ Ok m
+ReadsExactly body (Err read.NoMemory) reading = Unit {0}
+ReadsExactly body (Err (read.BodyFault offset)) reading = (left : ℕ) × (reading ≡ Err left) × (offset + left ≡ length body)

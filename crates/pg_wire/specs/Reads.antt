@@ -53,15 +53,18 @@ field_at bytes = do
   size ← number_at w16 kind.1
   modifier ← number_at w32 size.1
   format ← format_at modifier.1
-  Ok (record {
-    name = name.0;
-    table = table.0;
-    attribute = attribute.0;
-    kind = kind.0;
-    size = cast_signed w16 size.0;
-    modifier = cast_signed w32 modifier.0;
-    format = format.0;
-  }, format.1)
+  Ok (
+    record {
+      name = name.0;
+      table = table.0;
+      attribute = attribute.0;
+      kind = kind.0;
+      size = cast_signed w16 size.0;
+      modifier = cast_signed w32 modifier.0;
+      format = format.0;
+    },
+    format.1,
+  )
 
 -- the length -1 is NULL's, and no other negative one is a length
 unfoldable pub cell_at : List ℕ → Result (Option (List ℕ) × List ℕ) ℕ

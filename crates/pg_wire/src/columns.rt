@@ -107,10 +107,7 @@ fn cells_of(
 
 /// Reads the cells of a row.
 #[tactic(auto, unfolding(crate::specs::Reads::counted_at))]
-pub fn row_cells_of(
-    alloc: Global,
-    bytes: &[u8],
-) -> Result<(Sequence<Option<Bytes>>, &[u8]), Unread>
+pub fn row_cells_of(alloc: Global, bytes: &[u8]) -> Result<(Sequence<Option<Bytes>>, &[u8]), Unread>
     ensures { Gives (λ x. (x.0, x.1.now)) result (counted_at cell_at bytes.now) }
 {
     let (count, rest) = u16_of(bytes)?;

@@ -11,12 +11,14 @@ mod front;
 mod head;
 mod lists;
 mod put;
-mod read_back;
-mod read_front;
+mod reading_back;
+mod reading_front;
 mod write;
 
 pub use back::{Back, ErrorField, Field};
 pub use frame::{Frame, FrameFault, MessageFault, NextFault, ReadBody, Side};
 pub use framer::Framer;
 pub use front::{Front, Pair};
+pub use reading_back::read_back;
+pub use reading_front::read_front;
 pub use write::{write_back, write_front};

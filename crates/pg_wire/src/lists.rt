@@ -23,10 +23,7 @@ fn error_field_of(alloc: Global, bytes: &[u8]) -> Result<(ErrorField, &[u8]), Un
 }
 
 /// Reads the fields of an error and the zero byte that ends them.
-pub fn error_fields_of(
-    alloc: Global,
-    bytes: &[u8],
-) -> Result<(Sequence<ErrorField>, &[u8]), Unread>
+pub fn error_fields_of(alloc: Global, bytes: &[u8]) -> Result<(Sequence<ErrorField>, &[u8]), Unread>
     ensures { Gives (λ x. (x.0, x.1.now)) result (listed_at error_at bytes.now) }
 {
     let mut fields = Sequence::new(alloc);

@@ -1,10 +1,13 @@
 ghost use Rattle.std.specs.Prelude.{◌≡◌, ℕ, List, IfOk};
 ghost use Rattle.pg_wire.specs.Reads.{state_at, auth_at, key_data_at, back_at, back_read};
 ghost use Rattle.pg_wire.specs.Unreads.{Gives};
+ghost use Rattle.pg_wire.specs.Reading.{SpellsBack, ReadsAs, ReadsExactly};
+ghost use Rattle.pg_wire.specs.declared.back.Back.{Back};
 
 use crate::back::Back;
 use crate::columns::{row_cells_of, row_of};
 use crate::fields::{Unread, pair_of, str_of, u32_of};
+use crate::frame::{Frame, ReadBody};
 use crate::lists::error_fields_of;
 use acra_base::Bytes;
 use std::alloc::Global;
@@ -91,4 +94,28 @@ fn whole_back(alloc: Global, kind: u8, body: &[u8]) -> Result<Back, Unread>
         return Err(Unread::At { left: rest.len() });
     }
     Ok(message)
+}
+
+/// The message, or the place in the body of what can't be read.
+fn exact_back(alloc: Global, kind: u8, body: &[u8]) -> Result<Back, ReadBody>
+    ensures found { IfOk result (λ m. SpellsBack kind body.now m) }
+    ensures only { (m : Back) → SpellsBack kind body.now m → ReadsAs result m }
+    ensures exact { ReadsExactly body.now result (back_read kind body.now) }
+{
+    match whole_back(alloc, kind, body) {
+        Ok(message) => Ok(message),
+        Err(Unread::At { left }) => Err(ReadBody::BodyFault {
+            offset: body.len() - left,
+        }),
+        Err(Unread::NoMemory) => Err(ReadBody::NoMemory),
+    }
+}
+
+/// The server's message that a frame spells.
+pub fn read_back(alloc: Global, frame: &Frame) -> Result<Back, ReadBody>
+    ensures found { IfOk result (λ m. SpellsBack frame.now.kind frame.now.body m) }
+    ensures only { (m : Back) → SpellsBack frame.now.kind frame.now.body m → ReadsAs result m }
+    ensures exact { ReadsExactly frame.now.body result (back_read frame.now.kind frame.now.body) }
+{
+    exact_back(alloc, frame.kind, frame.body.as_slice())
 }

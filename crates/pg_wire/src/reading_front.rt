@@ -1,8 +1,11 @@
 ghost use Rattle.std.specs.Prelude.{◌≡◌, ℕ, List, IfOk};
 ghost use Rattle.pg_wire.specs.Reads.{startup_at, front_at, front_read};
 ghost use Rattle.pg_wire.specs.Unreads.{Gives};
+ghost use Rattle.pg_wire.specs.Reading.{SpellsFront, ReadsAs, ReadsExactly};
+ghost use Rattle.pg_wire.specs.declared.front.Front.{Front};
 
 use crate::fields::{Unread, str_of, u32_of};
+use crate::frame::{Frame, ReadBody};
 use crate::front::Front;
 use crate::lists::pairs_of;
 use std::alloc::Global;
@@ -48,4 +51,28 @@ fn whole_front(alloc: Global, kind: u8, body: &[u8]) -> Result<Front, Unread>
         return Err(Unread::At { left: rest.len() });
     }
     Ok(message)
+}
+
+/// The message, or the place in the body of what can't be read.
+fn exact_front(alloc: Global, kind: u8, body: &[u8]) -> Result<Front, ReadBody>
+    ensures found { IfOk result (λ m. SpellsFront kind body.now m) }
+    ensures only { (m : Front) → SpellsFront kind body.now m → ReadsAs result m }
+    ensures exact { ReadsExactly body.now result (front_read kind body.now) }
+{
+    match whole_front(alloc, kind, body) {
+        Ok(message) => Ok(message),
+        Err(Unread::At { left }) => Err(ReadBody::BodyFault {
+            offset: body.len() - left,
+        }),
+        Err(Unread::NoMemory) => Err(ReadBody::NoMemory),
+    }
+}
+
+/// The client's message that a frame spells.
+pub fn read_front(alloc: Global, frame: &Frame) -> Result<Front, ReadBody>
+    ensures found { IfOk result (λ m. SpellsFront frame.now.kind frame.now.body m) }
+    ensures only { (m : Front) → SpellsFront frame.now.kind frame.now.body m → ReadsAs result m }
+    ensures exact { ReadsExactly frame.now.body result (front_read frame.now.kind frame.now.body) }
+{
+    exact_front(alloc, frame.kind, frame.body.as_slice())
 }

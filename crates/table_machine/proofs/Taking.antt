@@ -43,8 +43,7 @@ begun s kind body rest request is front k b h =
 pub takes : {E : Type 0} (s t : Stream) (frame : Frame) (read : Result Next E) → s.who ≡ side.Client → GivesFrame s frame t → ReadsRequest frame.kind frame.body read → TakesRequest s read t
 takes s t frame (Ok (next.Request request)) who g h =
     let is : IsFrame side.Client s.limit s.opening frame.kind frame.body = rw who at g.is in
-    let found = begun s frame.kind frame.body g.rest request is g.front h.0.1 h.0.2 h.1 in
-    (
+    let found = begun s frame.kind frame.body g.rest request is g.front h.0.1 h.0.2 h.1 in (
       g.rest,
       record { placed = placed s.opening s.limit request found.0 h.1; spelled = h.0.0; framed = found.0; front = found.1 },
       rw (← h.0.1, ← h.0.2) g.after,

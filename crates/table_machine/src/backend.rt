@@ -70,7 +70,13 @@ impl LabBackend {
         match next_request(self.alloc, &mut self.framer)? {
             Next::Request(request) => {
                 let mut reply = Vec::new(self.alloc);
-                answer_request(self.alloc, &mut self.tables, self.session, &request, &mut reply)?;
+                answer_request(
+                    self.alloc,
+                    &mut self.tables,
+                    self.session,
+                    &request,
+                    &mut reply,
+                )?;
                 out.extend_from_slice(&reply)?;
                 Ok(true)
             }

@@ -13,6 +13,8 @@ mod replies;
 mod requests;
 mod stored;
 mod tables;
+#[cfg(test)]
+mod tests;
 
 pub use backend::LabBackend;
 pub use cell::Cell;

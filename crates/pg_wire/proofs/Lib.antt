@@ -10,3 +10,6 @@ pub mod RowLaws
 pub mod Messages
 pub mod Within
 pub mod Readings
+pub mod FrameLaws
+pub mod OneMessage
+pub mod Unfinished

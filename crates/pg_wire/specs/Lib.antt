@@ -6,3 +6,4 @@ pub mod Reading
 pub mod Heads
 pub mod Reads
 pub mod Unreads
+pub mod Prefixes

@@ -9,6 +9,7 @@ mod frame;
 mod framer;
 mod front;
 mod head;
+mod laws;
 mod lists;
 mod put;
 mod reading_back;
@@ -19,6 +20,9 @@ pub use back::{Back, ErrorField, Field};
 pub use frame::{Frame, FrameFault, MessageFault, NextFault, ReadBody, Side};
 pub use framer::Framer;
 pub use front::{Front, Pair};
+pub use laws::{
+    fault_is_no_frame, fault_stays, one_back, one_fault, one_frame, one_front, unfinished_begins,
+};
 pub use reading_back::read_back;
 pub use reading_front::read_front;
 pub use write::{write_back, write_front};

@@ -1,0 +1,48 @@
+ghost use Rattle.std.specs.Prelude.{◌≡◌, ◌<◌, ◌++◌, ℕ, Bool, List, slice_index};
+ghost use Rattle.pg_wire.specs.declared.frame.Side.{Side};
+ghost use Rattle.pg_wire.specs.declared.frame.FrameFault.{FrameFault};
+ghost use Rattle.pg_wire.specs.declared.front.Front.{Front};
+ghost use Rattle.pg_wire.specs.declared.back.Back.{Back};
+ghost use Rattle.pg_wire.specs.Frames.{frame_bytes, IsFrame, HasFault, IsUnfinished};
+ghost use Rattle.pg_wire.specs.Fronts.{IsFront, front_kind, front_body};
+ghost use Rattle.pg_wire.specs.Backs.{IsBack, back_kind, back_body};
+ghost use Rattle.pg_wire.specs.Prefixes.{BeginsFrame};
+
+/// No frame begins another: a stream begins with one frame at most.
+pub fn one_frame()
+    ensures one { (who : Side) (limit : ℕ) (opening : Bool) (k j : ℕ) (b c x y : List ℕ) → IsFrame who limit opening k b → IsFrame who limit opening j c
+        → frame_bytes k b ++ x ≡ frame_bytes j c ++ y → (k ≡ j) × (b ≡ c) × (x ≡ y) }
+{}
+
+/// Where there is a fault no frame stands.
+pub fn fault_is_no_frame()
+    ensures none { (who : Side) (limit : ℕ) (opening : Bool) (bytes : List ℕ) (fault : FrameFault) (k : ℕ) (b rest : List ℕ) → HasFault who limit opening bytes fault
+        → IsFrame who limit opening k b → bytes ≡ frame_bytes k b ++ rest → ⊥ }
+{}
+
+/// A fault stays, whatever comes.
+pub fn fault_stays()
+    ensures stays { (who : Side) (limit : ℕ) (opening : Bool) (bytes more : List ℕ) (fault : FrameFault) → HasFault who limit opening bytes fault
+        → HasFault who limit opening (bytes ++ more) fault }
+{}
+
+/// A stream has one fault at most.
+pub fn one_fault()
+    ensures one { (who : Side) (limit : ℕ) (opening : Bool) (bytes : List ℕ) (f g : FrameFault) → HasFault who limit opening bytes f → HasFault who limit opening bytes g → f ≡ g }
+{}
+
+/// No two messages of a client have one spelling.
+pub fn one_front()
+    ensures one { (a b : Front) → IsFront a → IsFront b → front_kind a ≡ front_kind b → front_body a ≡ front_body b → a ≡ b }
+{}
+
+/// No two messages of a server have one spelling.
+pub fn one_back()
+    ensures one { (a b : Back) → IsBack a → IsBack b → back_kind a ≡ back_kind b → back_body a ≡ back_body b → a ≡ b }
+{}
+
+/// What is unfinished is the front of a longer frame.
+pub fn unfinished_begins()
+    ensures begins { (who : Side) (limit : ℕ) (opening : Bool) (bytes : List ℕ) → ((i : ℕ) → slice_index bytes i < 256) → IsUnfinished who limit opening bytes
+        → BeginsFrame who opening bytes }
+{}

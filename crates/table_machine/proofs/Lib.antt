@@ -5,6 +5,5 @@ pub mod Told
 pub mod Stays
 pub mod Appended
 pub mod Carried
-pub mod Owed
 pub mod Taking
 pub mod Answered

@@ -13,7 +13,7 @@ use Rattle.table_machine.specs.declared.requests.Next.{Next}
 use Rattle.table_machine.specs.declared.requests.Next.TheVariants as next
 use Rattle.table_machine.specs.Backend.{IsRequest}
 use Rattle.table_machine.specs.Serving.{IsServed, Begins, BeginsNone, ReadsRequest, TakesRequest}
-use Rattle.table_machine.proofs.Owed.{one_frame, fault_is_no_frame}
+use Rattle.pg_wire.proofs.FrameLaws.{one_frame, fault_is_no_frame}
 
 pub placed : (opening : Bool) (limit : ℕ) (request : Front) → IsFrame side.Client limit opening (front_kind request) (front_body request) → IsServed request → IsRequest opening request
 placed true limit (fronts.Startup params) h s = tt

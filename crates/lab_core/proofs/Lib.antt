@@ -5,3 +5,5 @@ pub mod Opened
 pub mod Sending
 pub mod Showable
 pub mod Relayed
+pub mod Saying
+pub mod Steps

@@ -62,7 +62,7 @@ by_kind true kind body = counted_length body
 by_kind false kind body = omega (arith, counted_length body)
 
 -- a frame has at least the bytes of its length
-frame_length : (kind : ℕ) (body : List ℕ) → 4 ≤ length (frame_bytes kind body)
+pub frame_length : (kind : ℕ) (body : List ℕ) → 4 ≤ length (frame_bytes kind body)
 frame_length kind body = by_kind (kind == 0) kind body
 
 frame_not_empty : (kind : ℕ) (body rest : List ℕ) → frame_bytes kind body ++ rest ≡ [] → ⊥
@@ -108,8 +108,8 @@ pub none_left : (s t : Stream) (messages : List Back) → IsUnfinished s.who s.l
 none_left s t [] u h = tt
 none_left s t (m ∷ ms) u h =
     let f : IsFrame s.who s.limit s.opening (back_kind m) (back_body m) =
-        subst (λ (b : Bool). IsFrame s.who s.limit b (back_kind m) (back_body m)) (sym h.opening)
-        (subst (λ (n : ℕ). IsFrame s.who n false (back_kind m) (back_body m)) (sym h.limit) (subst (λ (w : Side). IsFrame w reply_limit false (back_kind m) (back_body m)) (sym h.who) (framed m h.rest.1.0))) in
+    subst (λ (b : Bool). IsFrame s.who s.limit b (back_kind m) (back_body m)) (sym h.opening)
+    (subst (λ (n : ℕ). IsFrame s.who n false (back_kind m) (back_body m)) (sym h.limit) (subst (λ (w : Side). IsFrame w reply_limit false (back_kind m) (back_body m)) (sym h.who) (framed m h.rest.1.0))) in
     absurd (u.no_frame (back_kind m) (back_body m) (flat_map back_frame ms) f h.rest.0)
 
 fault_of : (s : Stream) (messages : List Back) (fault : FrameFault) → Holds s messages → HasFault s.who s.limit s.opening s.left fault → HasFault side.Backend reply_limit false s.left fault
@@ -190,7 +190,7 @@ module _ (show : Back → Back) where
         front ++ f.0,
         f.1 ++ rest,
         append_assoc front f.0 (f.1 ++ rest) ∙ ap (λ (xs : List ℕ). front ++ xs) (sym (append_assoc f.0 f.1 rest) ∙ ap (λ (xs : List ℕ). xs ++ rest) f.2)
-        ∙ sym (shown_bytes n.done (message ∷ n.others)) ∙ ap (λ (ms : List Back). reply_bytes (map show ms)) (sym n.parts),
+            ∙ sym (shown_bytes n.done (message ∷ n.others)) ∙ ap (λ (ms : List Back). reply_bytes (map show ms)) (sym n.parts),
         grew_then old mid new front f.0 n.sent f.3,
       )
 

@@ -6,3 +6,5 @@ pub mod Runs
 pub mod Session
 pub mod Headline
 pub mod Relaying
+pub mod Understood
+pub mod Answering

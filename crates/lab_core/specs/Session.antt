@@ -6,7 +6,7 @@ use Rattle.acra_base.specs.Known.{Grew, Shrank, IsAtEnd}
 use Rattle.pg_wire.specs.declared.frame.MessageFault.{MessageFault}
 use Rattle.pg_wire.specs.declared.frame.MessageFault.TheVariants as message
 use Rattle.pg_wire.specs.declared.frame.Side.TheVariants as side
-use Rattle.pg_wire.specs.Streams.{Stream}
+use Rattle.pg_wire.specs.Streams.{Stream, fed}
 use Rattle.table_machine.specs.declared.cell.Cell.{Cell}
 use Rattle.table_machine.specs.Backend.{Lab, text_limit}
 use Rattle.plain_tables.specs.Requests.{Request, Phase, phase_after_all, AreSaid, request_bytes, stream_of, NoRequest, message_limit}
@@ -15,11 +15,13 @@ use Rattle.lab_core.specs.Cells.{Keys, IsStored}
 use Rattle.lab_core.specs.Runs.{State, started, state_after_all, answers}
 use Rattle.lab_core.specs.declared.status.Status.{Status}
 use Rattle.lab_core.specs.declared.status.Status.TheVariants as ends
+use Rattle.lab_core.specs.declared.stop.Stop.{Stop}
+use Rattle.lab_core.specs.declared.stop.Stop.TheVariants as stops
 
--- a read took a piece, none only at the end
-pub record PieceRead (left left' : Option (List ℕ)) (old new : List ℕ) (n room : ℕ) : Type 0 where
+-- a read took a piece, none only at the end, and fed it
+pub record PieceRead (left left' : Option (List ℕ)) (old new : Stream) (n room : ℕ) : Type 0 where
   pub piece : List ℕ
-  pub behind : new ≡ old ++ piece
+  pub behind : new ≡ fed old piece
   pub took : Shrank left left' piece
   pub count : length piece ≡ n
   pub within : n ≤ room
@@ -77,6 +79,12 @@ Ends (ends.BadClient offset kind) left requests rest =
 Ends ends.Spent left requests rest = length (stream_of requests rest) ≡ 2 ^ 48
 Ends ends.Usage left requests rest = ⊥
 Ends status left requests rest = Unit {0}
+
+-- the end of a session that stops
+abbrev pub status_of : Stop → Status
+status_of stops.NoMemory = ends.NoMemory
+status_of stops.ReadFault = ends.ReadFault
+status_of stops.WriteFault = ends.WriteFault
 
 -- whether the last request may have been begun and not answered whole
 abbrev pub may_begin : Status → Bool

@@ -6,6 +6,7 @@ mod container;
 mod opening;
 mod relay;
 mod rewriting;
+mod said;
 mod showing;
 mod status;
 mod stop;

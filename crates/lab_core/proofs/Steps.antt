@@ -1,0 +1,231 @@
+-- The moves of a session.
+use Rattle.std.proofs.Common.{◌≡◌, ◌≢◌, ℕ, ◌+◌, ◌%◌, ◌^◌, ◌≤◌, ◌<◌, ◌⊎◌, inl, inr, ◌&&◌, Bool, true, false, List, [], ◌∷◌, ◌++◌, length, Option, Some, None, Result, Ok, Err, refl, sym, ap, subst, ◌∙◌, append_assoc, arith}
+use Rattle.std.specs.List.{flat_map}
+use Rattle.std.proofs.lemmas.List.{append-nil, length-append}
+use Rattle.rand_chacha.specs.ChaCha.{ChaCha}
+use Rattle.acra_base.specs.Known.{Grew, Shrank, IsAtEnd}
+use Rattle.acra_base.specs.Grows.{grew_nothing, grew_then, shrank_nothing, shrank_then}
+use Rattle.pg_wire.specs.declared.frame.MessageFault.TheVariants as message
+use Rattle.pg_wire.specs.declared.frame.Side.TheVariants as side
+use Rattle.pg_wire.specs.declared.front.Pair.{Pair}
+use Rattle.pg_wire.specs.declared.front.Front.TheVariants as fronts
+use Rattle.pg_wire.specs.Streams.{Stream, behind, fed, new_stream}
+use Rattle.pg_wire.specs.Frames.{asks_encryption}
+use Rattle.pg_wire.specs.Fronts.{front_kind, front_body}
+use Rattle.table_machine.specs.Backend.{Lab, new_lab, text_limit}
+use Rattle.plain_tables.specs.Requests.{Request, Phase, phase_after, phase_after_all, IsSaid, AreSaid, message_of, request_bytes, stream_of, NoRequest, message_limit}
+use Rattle.plain_tables.specs.Standing.{StandFor}
+use Rattle.lab_core.specs.Cells.{Keys, IsStored}
+use Rattle.lab_core.specs.Runs.{State, started, state_after, state_after_all, answer, answers}
+use Rattle.lab_core.specs.Session.{PieceRead, PieceTaken, SentFront, is_opening, Rests, SoFar, Ends, may_begin, MayBegin, Ran}
+use Rattle.lab_core.specs.Answering.{request_of, phase_of, Takes, Answered, Broken}
+use Rattle.lab_core.specs.declared.said.Said.{Said}
+use Rattle.lab_core.specs.declared.said.Said.TheVariants as said
+use Rattle.lab_core.specs.declared.status.Status.{Status}
+use Rattle.lab_core.specs.declared.status.Status.TheVariants as ends
+
+-- ---- one request more
+
+frames_more : (rs : List Request) (r : Request) → flat_map request_bytes (rs ++ r ∷ []) ≡ flat_map request_bytes rs ++ request_bytes r
+frames_more [] r = append-nil (request_bytes r)
+frames_more (q ∷ rs) r = ap (λ (xs : List ℕ). request_bytes q ++ xs) (frames_more rs r) ∙ sym (append_assoc (request_bytes q) (flat_map request_bytes rs) (request_bytes r))
+
+pub stream_next : (rs : List Request) (r : Request) (rest : List ℕ) → stream_of rs (request_bytes r ++ rest) ≡ stream_of (rs ++ r ∷ []) rest
+stream_next rs r rest = sym (append_assoc (flat_map request_bytes rs) (request_bytes r) rest) ∙ ap (λ (xs : List ℕ). xs ++ rest) (sym (frames_more rs r))
+
+pub stream_more : (rs : List Request) (pending piece : List ℕ) → stream_of rs pending ++ piece ≡ stream_of rs (pending ++ piece)
+stream_more rs pending piece = append_assoc (flat_map request_bytes rs) pending piece
+
+said_more : (p : Phase) (rs : List Request) (r : Request) → AreSaid p rs → IsSaid (phase_after_all p rs) r → AreSaid p (rs ++ r ∷ [])
+said_more p [] r h s = (s, tt)
+said_more p (q ∷ rs) r h s = (h.0, said_more (phase_after p q) rs r h.1 s)
+
+phase_more : (p : Phase) (rs : List Request) (r : Request) → phase_after_all p (rs ++ r ∷ []) ≡ phase_after (phase_after_all p rs) r
+phase_more p [] r = refl
+phase_more p (q ∷ rs) r = phase_more (phase_after p q) rs r
+
+state_more : (keys : Keys) (s : State) (rs : List Request) (r : Request) → state_after_all keys s (rs ++ r ∷ []) ≡ state_after keys (state_after_all keys s rs) r
+state_more keys s [] r = refl
+state_more keys s (q ∷ rs) r = state_more keys (state_after keys s q) rs r
+
+answers_more : (keys : Keys) (s : State) (rs : List Request) (r : Request) → answers keys s (rs ++ r ∷ []) ≡ answers keys s rs ++ answer keys (state_after_all keys s rs) r
+answers_more keys s [] r = append-nil (answer keys s r)
+answers_more keys s (q ∷ rs) r =
+    ap (λ (xs : List ℕ). answer keys s q ++ xs) (answers_more keys (state_after keys s q) rs r)
+    ∙ sym (append_assoc (answer keys s q) (answers keys (state_after keys s q) rs) (answer keys (state_after_all keys (state_after keys s q) rs) r))
+
+-- ---- phases
+
+pub phase_is : (p : Phase) → p ≢ Phase.Over → phase_of (is_opening p) ≡ p
+phase_is Phase.Opening n = refl
+phase_is Phase.Serving n = refl
+phase_is Phase.Over n = absurd (n refl)
+
+startup_ends : (params : List Pair) → asks_encryption (front_body (fronts.Startup params)) ≡ false
+startup_ends params = refl
+
+-- after a request that is answered, and was in its place, a session serves
+serves : (p : Phase) (text : List ℕ) (what : Said) → IsSaid p (request_of text what) → phase_after p (request_of text what) ≡ Phase.Serving
+serves Phase.Opening text (said.Opens params) h = refl
+serves Phase.Serving text (said.Opens params) h = absurd h
+serves Phase.Over text (said.Opens params) h = absurd h
+serves Phase.Opening text (said.Asks tree) h = absurd h
+serves Phase.Serving text (said.Asks tree) h = refl
+serves Phase.Over text (said.Asks tree) h = absurd h
+
+closes : (p : Phase) (text : List ℕ) (what : Said) → IsSaid p (request_of text what) → (is_opening p && asks_encryption (front_body (message_of (request_of text what)))) ≡ false
+closes Phase.Opening text (said.Opens params) h = startup_ends params
+closes Phase.Serving text (said.Opens params) h = refl
+closes Phase.Over text (said.Opens params) h = refl
+closes Phase.Opening text (said.Asks tree) h = absurd h
+closes Phase.Serving text (said.Asks tree) h = refl
+closes Phase.Over text (said.Asks tree) h = refl
+
+serving_not_over : Phase.Serving ≢ Phase.Over
+serving_not_over e = subst (λ (p : Phase). elim p as (λ _. Type 0) [ Phase.Opening ↦ Unit {0} | Phase.Serving ↦ Unit {0} | Phase.Over ↦ ⊥ ]) e tt
+
+opening_not_over : Phase.Opening ≢ Phase.Over
+opening_not_over e = subst (λ (p : Phase). elim p as (λ _. Type 0) [ Phase.Opening ↦ Unit {0} | Phase.Serving ↦ Unit {0} | Phase.Over ↦ ⊥ ]) e tt
+
+small_sum : (n : ℕ) → n ≤ 2 ^ 48 → n % 2 ^ 64 ≡ n
+small_sum n h = omega arith
+
+-- ---- moves
+
+pub starts : (keys : Keys) (g0 : ChaCha) (left held : Option (List ℕ)) (lab : Lab) (stream : Stream) → lab ≡ new_lab 1 [] → stream ≡ new_stream side.Client message_limit → SoFar keys g0 left held left held g0 lab stream 0 []
+starts keys g0 left held lab stream el es = record {
+  each = tt;
+  serving = opening_not_over;
+  read = subst (λ (xs : List ℕ). Shrank left left xs) (sym (ap (λ (u : Stream). u.left) es)) (shrank_nothing left);
+  sent = grew_nothing held;
+  rests = record {
+    stand = record { same = ap (λ (l : Lab). l.rows) el; meant = tt };
+    session = ap (λ (l : Lab). l.session) el;
+    unclosed = ap (λ (l : Lab). l.closed) el;
+    who = ap (λ (l : Lab). l.stream.who) el;
+    limit = ap (λ (l : Lab). l.stream.limit) el;
+    opening = ap (λ (l : Lab). l.stream.opening) el;
+    idle = ap (λ (l : Lab). l.stream.left) el;
+  };
+  drawn = refl;
+  who = ap (λ (u : Stream). u.who) es;
+  limit = ap (λ (u : Stream). u.limit) es;
+  opening = ap (λ (u : Stream). u.opening) es;
+  place = ap (λ (u : Stream). u.offset) es;
+  total = sym (rw (ap (λ (u : Stream). u.offset) es, ap (λ (u : Stream). u.left) es) refl);
+}
+
+module _ (keys : Keys) (g0 : ChaCha) (left0 held0 left held : Option (List ℕ)) (g : ChaCha) (lab : Lab) (stream : Stream) (taken : ℕ) (rs : List Request) (so : SoFar keys g0 left0 held0 left held g lab stream taken rs) where
+  pub reads_on : (left' : Option (List ℕ)) (stream' : Stream) (n room : ℕ) → PieceRead left left' stream stream' n room → SoFar keys g0 left0 held0 left' held g lab stream' (taken + n) rs
+  reads_on left' stream' n room p = record {
+    each = so.each;
+    serving = so.serving;
+    read = subst (λ (xs : List ℕ). Shrank left0 left' xs) (stream_more rs stream.left p.piece ∙ ap (stream_of rs) (sym (ap (λ (u : Stream). u.left) p.behind))) (shrank_then left0 left left' (stream_of rs stream.left) p.piece so.read p.took);
+    sent = so.sent;
+    rests = so.rests;
+    drawn = so.drawn;
+    who = ap (λ (u : Stream). u.who) p.behind ∙ so.who;
+    limit = ap (λ (u : Stream). u.limit) p.behind ∙ so.limit;
+    opening = ap (λ (u : Stream). u.opening) p.behind ∙ so.opening;
+    place = ap (λ (u : Stream). u.offset) p.behind ∙ so.place;
+    total = omega (arith, so.total, p.count, ap (λ (u : Stream). u.offset) p.behind, ap (λ (u : Stream). length u.left) p.behind, length-append stream.left p.piece);
+  }
+
+  -- the request that was taken is in its place
+  pub placed : (r : Request) (t : Stream) → Takes stream r t → IsSaid (phase_after_all Phase.Opening rs) r
+  placed r t k = subst (λ (p : Phase). IsSaid p r) (ap phase_of so.opening ∙ phase_is (phase_after_all Phase.Opening rs) so.serving) k.placed
+
+  pub read_of : (r : Request) (t : Stream) → (k : Takes stream r t) → Shrank left0 left (stream_of (rs ++ r ∷ []) k.rest)
+  read_of r t k = subst (λ (xs : List ℕ). Shrank left0 left xs) (ap (stream_of rs) k.front ∙ stream_next rs r k.rest) so.read
+
+  pub answers_on : (text : List ℕ) (what : Said) (t : Stream) (g' : ChaCha) (lab' : Lab) (held' : Option (List ℕ)) → taken ≤ 2 ^ 48 → Takes stream (request_of text what) t
+      → Answered keys (state_after_all keys (started g0) rs) (request_of text what) g' lab' held held' → SoFar keys g0 left0 held0 left held' g' lab' t taken (rs ++ request_of text what ∷ [])
+  answers_on text what t g' lab' held' small k a =
+      let r = request_of text what in
+      let here = placed r t k in
+      let serving : phase_after_all Phase.Opening (rs ++ r ∷ []) ≡ Phase.Serving = phase_more Phase.Opening rs r ∙ serves (phase_after_all Phase.Opening rs) text what here in
+      let state = state_more keys (started g0) rs r in
+      let left_is : t.left ≡ k.rest = ap (λ (u : Stream). u.left) k.after in
+      let long : length stream.left ≡ length (request_bytes r) + length k.rest = ap length k.front ∙ length-append (request_bytes r) k.rest in
+      let offset : t.offset ≡ stream.offset + length (request_bytes r) = ap (λ (u : Stream). u.offset) k.after ∙ small_sum (stream.offset + length (request_bytes r)) (omega (arith, so.total, long)) in
+      record {
+        each = said_more Phase.Opening rs r so.each here;
+        serving = λ e. serving_not_over (sym serving ∙ e);
+        read = subst (λ (xs : List ℕ). Shrank left0 left (stream_of (rs ++ r ∷ []) xs)) (sym left_is) (read_of r t k);
+        sent = subst (λ (xs : List ℕ). Grew held0 held' xs) (sym (answers_more keys (started g0) rs r)) (grew_then held0 held held' _ _ so.sent a.sent);
+        rests = subst (λ (b : Bool). Rests keys lab' (state_after_all keys (started g0) (rs ++ r ∷ [])) b) (sym (ap is_opening serving)) (subst (λ (u : State). Rests keys lab' u false) (sym state) a.rests);
+        drawn = a.drawn ∙ ap (λ (u : State). u.coming) (sym state);
+        who = ap (λ (u : Stream). u.who) k.after ∙ so.who;
+        limit = ap (λ (u : Stream). u.limit) k.after ∙ so.limit;
+        opening = ap (λ (u : Stream). u.opening) k.after ∙ ap (λ (b : Bool). b && asks_encryption (front_body (message_of r))) so.opening ∙ closes (phase_after_all Phase.Opening rs) text what here ∙ sym (ap is_opening serving);
+        place = omega (arith, offset, so.place, ap length (frames_more rs r), length-append (flat_map request_bytes rs) (request_bytes r));
+        total = omega (arith, so.total, offset, long, ap length left_is);
+      }
+
+  -- ---- ends
+
+  -- a session ends that has answered all that it took
+  pub ends_here : (status : Status) → Ends status left rs stream.left → Ran keys g0 left0 left held0 held lab.rows status rs [] stream.left
+  ends_here status why =
+      let none = sym (append-nil rs) in
+      record {
+        each = subst (λ (qs : List Request). AreSaid Phase.Opening qs) none so.each;
+        read = subst (λ (qs : List Request). Shrank left0 left (stream_of qs stream.left)) none so.read;
+        why_begun = tt;
+        behind = [];
+        more = [];
+        replies = append-nil (answers keys (started g0) rs ++ []) ∙ append-nil (answers keys (started g0) rs) ∙ ap (answers keys (started g0)) none;
+        sent = subst (λ (xs : List ℕ). Grew held0 held xs) (sym (append-nil (answers keys (started g0) rs))) so.sent;
+        stand = inl so.rests.stand;
+        why = why;
+      }
+
+  -- a piece was taken and is lost, or comes before the end
+  pub lost : (left' : Option (List ℕ)) (status : Status) → (p : PieceTaken left left') → Ends status left' rs (stream.left ++ p.0) → Ran keys g0 left0 left' held0 held lab.rows status rs [] (stream.left ++ p.0)
+  lost left' status p why =
+      let none = sym (append-nil rs) in
+      record {
+        each = subst (λ (qs : List Request). AreSaid Phase.Opening qs) none so.each;
+        read = subst (λ (qs : List Request). Shrank left0 left' (stream_of qs (stream.left ++ p.0))) none (subst (λ (xs : List ℕ). Shrank left0 left' xs) (stream_more rs stream.left p.0) (shrank_then left0 left left' (stream_of rs stream.left) p.0 so.read p.1));
+        why_begun = tt;
+        behind = [];
+        more = [];
+        replies = append-nil (answers keys (started g0) rs ++ []) ∙ append-nil (answers keys (started g0) rs) ∙ ap (answers keys (started g0)) none;
+        sent = subst (λ (xs : List ℕ). Grew held0 held xs) (sym (append-nil (answers keys (started g0) rs))) so.sent;
+        stand = inl so.rests.stand;
+        why = why;
+      }
+
+  -- a request was begun and not answered whole
+  pub breaks_off : (r : Request) (t : Stream) (lab' : Lab) (held' : Option (List ℕ)) (status : Status) → (k : Takes stream r t) → Broken keys (state_after_all keys (started g0) rs) r lab' held held' → may_begin status ≡ true → Ends status left rs k.rest
+      → Ran keys g0 left0 left held0 held' lab'.rows status rs (r ∷ []) k.rest
+  breaks_off r t lab' held' status k b may why =
+      record {
+        each = said_more Phase.Opening rs r so.each (placed r t k);
+        read = read_of r t k;
+        why_begun = may;
+        behind = b.sent.0;
+        more = b.sent.1;
+        replies = append_assoc (answers keys (started g0) rs) b.sent.0 b.sent.1 ∙ ap (λ (xs : List ℕ). answers keys (started g0) rs ++ xs) b.sent.2 ∙ sym (answers_more keys (started g0) rs r);
+        sent = grew_then held0 held held' _ _ so.sent b.sent.3;
+        stand = elim b.stand [ inl h ↦ inl h | inr h ↦ inr (subst (λ (u : State). StandFor (IsStored keys) lab'.rows u.rows) (sym (state_more keys (started g0) rs r)) h) ];
+        why = why;
+      }
+
+  -- the client has left
+  pub leaves : (t : Stream) → (k : Takes stream Request.Leaves t) → Ran keys g0 left0 left held0 held lab.rows ends.Done (rs ++ Request.Leaves ∷ []) [] k.rest
+  leaves t k =
+      let all = rs ++ Request.Leaves ∷ [] in
+      let none = sym (append-nil all) in
+      let replies : answers keys (started g0) all ≡ answers keys (started g0) rs = answers_more keys (started g0) rs Request.Leaves ∙ append-nil (answers keys (started g0) rs) in
+      record {
+        each = subst (λ (qs : List Request). AreSaid Phase.Opening qs) none (said_more Phase.Opening rs Request.Leaves so.each (placed Request.Leaves t k));
+        read = subst (λ (qs : List Request). Shrank left0 left (stream_of qs k.rest)) none (read_of Request.Leaves t k);
+        why_begun = tt;
+        behind = [];
+        more = [];
+        replies = append-nil (answers keys (started g0) all ++ []) ∙ append-nil (answers keys (started g0) all) ∙ ap (answers keys (started g0)) none;
+        sent = subst (λ (xs : List ℕ). Grew held0 held xs) (sym (append-nil (answers keys (started g0) all) ∙ replies)) so.sent;
+        stand = inl (subst (λ (u : State). StandFor (IsStored keys) lab.rows u.rows) (sym (state_more keys (started g0) rs Request.Leaves)) so.rests.stand);
+        why = inr (phase_more Phase.Opening rs Request.Leaves);
+      }

@@ -7,3 +7,8 @@ pub mod Showable
 pub mod Relayed
 pub mod Saying
 pub mod Steps
+pub mod Forwarded
+pub mod Drawing
+pub mod Meant
+pub mod Positive
+pub mod AnswerLaws

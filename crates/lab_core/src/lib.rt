@@ -2,7 +2,9 @@
 //! that come in to the bytes that go out.
 #![tactic(auto)]
 
+mod answering;
 mod container;
+mod forward;
 mod opening;
 mod relay;
 mod rewriting;

@@ -1,5 +1,6 @@
 ghost use Rattle.std.specs.Prelude.{◌≡◌, map, IfOk, OnOk, option_map};
 ghost use Rattle.plain_tables.specs.Rewritten.{rewritten_value, rewritten, protected_of};
+ghost use Rattle.hex.specs.Hex.{IsBytes};
 ghost use Rattle.table_machine.specs.Stored.{bytea_text};
 ghost use Rattle.lab_core.specs.Runs.{written, written_rows, written_values, cell_for, drawn_for};
 
@@ -103,7 +104,8 @@ fn rewritten_rows(
 
 // The statement with this cell in the place of its string.
 fn rewritten(alloc: Global, tree: Statement, cell: &[u8]) -> Result<Statement, NoMemory>
-    ensures { IfOk result (λ new. new ≡ rewritten cell.now tree) }
+    ensures ok { IfOk result (λ new. new ≡ rewritten cell.now tree) }
+    ensures bytes { IsBytes cell.now }
 {
     match tree {
         Statement::Select { table, items } => Ok(Statement::Select { table, items }),
@@ -150,6 +152,7 @@ pub fn sealed_statement(
 ) -> Result<Statement, NoMemory>
     ensures sent { IfOk result (λ sent. sent ≡ rewritten (cell_for (record { client = client.now; key = key.now }) random.old (written tree)) tree) }
     ensures random { OnOk result (random.new ≡ drawn_for random.old (written tree)) }
+    ensures bytes { OnOk result (IsBytes (cell_for (record { client = client.now; key = key.now }) random.old (written tree))) }
 {
     let cell = cell_for(alloc, client, key, random, &tree)?;
     rewritten(alloc, tree, &cell)

@@ -3,7 +3,7 @@ use Rattle.std.proofs.Common.{◌≡◌, ℕ, zero, suc, ◌^◌, ◌<◌, ◌�
 use Rattle.std.specs.List.{flat_map, AllByRecursion}
 use Rattle.std.specs.Int.{w16, to_be_bytes}
 use Rattle.std.proofs.lemmas.List.{length-append}
-use Rattle.pg_wire.specs.Reads.{◌>>=◌, number_at, items_at, counted_at, ended_at, listed_at}
+use Rattle.pg_wire.specs.Bodies.{◌>>=◌, number_at, items_at, counted_at, ended_at, listed_at}
 use Rattle.pg_wire.proofs.Shorter.{bind_ok, ok_is}
 use Rattle.pg_wire.proofs.Numbers.{IsBytes, Takes, Takes-then, wide16, number_takes, number_again}
 

@@ -3,8 +3,8 @@ use Rattle.std.proofs.Common.{◌≡◌, ℕ, zero, suc, ◌-◌, ◌+◌, ◌�
 use Rattle.std.proofs.lemmas.List.{append-nil, take_rest}
 use Rattle.pg_wire.specs.declared.fields.Unread.{Unread}
 use Rattle.pg_wire.specs.declared.fields.Unread.TheVariants as unread
-use Rattle.pg_wire.specs.Reads.{◌>>=◌, items_at, ended_at}
-use Rattle.pg_wire.specs.Unreads.{Fails}
+use Rattle.pg_wire.specs.Bodies.{◌>>=◌, items_at, ended_at}
+use Rattle.pg_wire.specs.Readers.{Fails}
 
 -- what was read before, and what is still read
 abbrev pub with_front : {A : Type 0} → List A → Result (List A × List ℕ) ℕ → Result (List A × List ℕ) ℕ

@@ -12,7 +12,7 @@ use Rattle.pg_wire.specs.declared.back.Back.TheVariants as backs
 use Rattle.pg_wire.specs.Fronts.{str, IsParam, pair_bytes, IsFront, front_kind, front_body}
 use Rattle.pg_wire.specs.Backs.{IsField, field_bytes, IsCell, cell_bytes, IsErrorField, error_bytes, IsState, IsBack, back_kind, back_body}
 use Rattle.pg_wire.specs.Reading.{SpellsFront, SpellsBack}
-use Rattle.pg_wire.specs.Reads.{◌>>=◌, number_at, str_at, pair_at, field_at, cell_at, error_at, state_at, counted_at, listed_at, alone, mapped, auth_at, key_data_at, back_at, back_read, startup_at, front_at, front_read}
+use Rattle.pg_wire.specs.Bodies.{◌>>=◌, number_at, str_at, pair_at, field_at, cell_at, error_at, state_at, counted_at, listed_at, alone, mapped, auth_at, key_data_at, back_at, back_read, startup_at, front_at, front_read}
 use Rattle.pg_wire.proofs.Shorter.{bind_ok, ok_is}
 use Rattle.pg_wire.proofs.Numbers.{IsBytes, Takes, Takes-then, wide32, number_takes, number_again}
 use Rattle.pg_wire.proofs.Texts.{str_takes, str_again, pair_takes, pair_again}

@@ -10,7 +10,7 @@ use Rattle.pg_wire.specs.declared.back.ErrorField.{ErrorField}
 use Rattle.pg_wire.specs.declared.front.Pair.{Pair}
 use Rattle.pg_wire.specs.Fronts.{IsText, str, IsParam, pair_bytes}
 use Rattle.pg_wire.specs.Backs.{IsField, field_bytes, IsCell, cell_bytes, IsErrorField, error_bytes}
-use Rattle.pg_wire.specs.Reads.{◌>>=◌, number_at, bytes_at, str_at, pair_at, format_at, field_at, cell_at, error_at}
+use Rattle.pg_wire.specs.Bodies.{◌>>=◌, number_at, bytes_at, str_at, pair_at, format_at, field_at, cell_at, error_at}
 use Rattle.pg_wire.proofs.Shorter.{bind_ok, ok_is}
 use Rattle.pg_wire.proofs.Numbers.{IsBytes, Takes, Takes-then, wide16, wide32, number_takes, number_again, bytes_take, bytes_again}
 use Rattle.pg_wire.proofs.Texts.{str_takes, str_again, pair_takes, pair_again, text_first}

@@ -6,7 +6,7 @@ use Rattle.std.proofs.lemmas.List.{take_at, drop_at, take-append-drop, drop_more
 use Rattle.std.proofs.lemmas.List.Quantifiers.{position-Some}
 use Rattle.pg_wire.specs.declared.front.Pair.{Pair}
 use Rattle.pg_wire.specs.Fronts.{IsText, str, IsPair, pair_bytes}
-use Rattle.pg_wire.specs.Reads.{◌>>=◌, str_at, pair_at}
+use Rattle.pg_wire.specs.Bodies.{◌>>=◌, str_at, pair_at}
 use Rattle.pg_wire.proofs.Shorter.{bind_ok, ok_is, str_ends}
 use Rattle.pg_wire.proofs.Numbers.{IsBytes, IsBytes-drop, Takes, Takes-then}
 

@@ -7,7 +7,7 @@ use Rattle.pg_wire.specs.declared.front.Front.{Front}
 use Rattle.pg_wire.specs.declared.front.Front.TheVariants as fronts
 use Rattle.pg_wire.specs.declared.back.Back.{Back}
 use Rattle.pg_wire.specs.declared.back.Back.TheVariants as backs
-use Rattle.pg_wire.specs.Reads.{◌>>=◌, number_at, bytes_at, around, str_at, pair_at, format_at, field_at, cell_at, error_at, state_at, items_at, counted_at, ended_at, listed_at, alone, mapped, auth_at, key_data_at, back_at, back_read, startup_at, front_at, front_read}
+use Rattle.pg_wire.specs.Bodies.{◌>>=◌, number_at, bytes_at, around, str_at, pair_at, format_at, field_at, cell_at, error_at, state_at, items_at, counted_at, ended_at, listed_at, alone, mapped, auth_at, key_data_at, back_at, back_read, startup_at, front_at, front_read}
 use Rattle.pg_wire.proofs.RowLaws.{with_name, with_table, with_attribute, with_kind, with_size, with_modifier, with_format, some_cell, sized_cell, cell_behind}
 
 abbrev pub Within : {A : Type 0} → ℕ → Result (A × List ℕ) ℕ → Type 0

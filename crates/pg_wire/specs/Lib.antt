@@ -4,6 +4,6 @@ pub mod Fronts
 pub mod Backs
 pub mod Reading
 pub mod Heads
-pub mod Reads
-pub mod Unreads
+pub mod Bodies
+pub mod Readers
 pub mod Prefixes

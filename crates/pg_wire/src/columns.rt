@@ -1,6 +1,6 @@
 ghost use Rattle.std.specs.Prelude.{◌≡◌, ℕ, List, Option};
-ghost use Rattle.pg_wire.specs.Reads.{format_at, field_at, cell_at, items_at, counted_at};
-ghost use Rattle.pg_wire.specs.Unreads.{Gives};
+ghost use Rattle.pg_wire.specs.Bodies.{format_at, field_at, cell_at, items_at, counted_at};
+ghost use Rattle.pg_wire.specs.Readers.{Gives};
 
 use crate::back::{Field, NULL_LENGTH};
 use crate::fields::{Unread, bytes_of, str_of, u16_of, u32_of};
@@ -11,7 +11,7 @@ use std::alloc::Global;
 const LENGTH_END: u32 = 2_147_483_648;
 
 /// Reads a format, 0 for text and 1 for binary.
-#[tactic(auto, unfolding(crate::specs::Reads::format_at))]
+#[tactic(auto, unfolding(crate::specs::Bodies::format_at))]
 fn format_of(bytes: &[u8]) -> Result<(u16, &[u8]), Unread>
     ensures { Gives (λ x. (x.0, x.1.now)) result (format_at bytes.now) }
 {
@@ -23,7 +23,7 @@ fn format_of(bytes: &[u8]) -> Result<(u16, &[u8]), Unread>
 }
 
 /// Reads the description of a column.
-#[tactic(auto, unfolding(crate::specs::Reads::field_at))]
+#[tactic(auto, unfolding(crate::specs::Bodies::field_at))]
 fn field_of(alloc: Global, bytes: &[u8]) -> Result<(Field, &[u8]), Unread>
     ensures { Gives (λ x. (x.0, x.1.now)) result (field_at bytes.now) }
 {
@@ -61,7 +61,7 @@ fn fields_of(alloc: Global, count: u16, bytes: &[u8]) -> Result<(Sequence<Field>
 }
 
 /// Reads the description of a row.
-#[tactic(auto, unfolding(crate::specs::Reads::counted_at))]
+#[tactic(auto, unfolding(crate::specs::Bodies::counted_at))]
 pub fn row_of(alloc: Global, bytes: &[u8]) -> Result<(Sequence<Field>, &[u8]), Unread>
     ensures { Gives (λ x. (x.0, x.1.now)) result (counted_at field_at bytes.now) }
 {
@@ -70,7 +70,7 @@ pub fn row_of(alloc: Global, bytes: &[u8]) -> Result<(Sequence<Field>, &[u8]), U
 }
 
 /// Reads a cell, `None` for NULL.
-#[tactic(auto, unfolding(crate::specs::Reads::cell_at))]
+#[tactic(auto, unfolding(crate::specs::Bodies::cell_at))]
 fn cell_of(alloc: Global, bytes: &[u8]) -> Result<(Option<Bytes>, &[u8]), Unread>
     ensures { Gives (λ x. (x.0, x.1.now)) result (cell_at bytes.now) }
 {
@@ -104,7 +104,7 @@ fn cells_of(
 }
 
 /// Reads the cells of a row.
-#[tactic(auto, unfolding(crate::specs::Reads::counted_at))]
+#[tactic(auto, unfolding(crate::specs::Bodies::counted_at))]
 pub fn row_cells_of(alloc: Global, bytes: &[u8]) -> Result<(Sequence<Option<Bytes>>, &[u8]), Unread>
     ensures { Gives (λ x. (x.0, x.1.now)) result (counted_at cell_at bytes.now) }
 {

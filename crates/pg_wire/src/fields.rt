@@ -1,8 +1,8 @@
 ghost use Rattle.std.specs.Prelude.{◌≡◌, ◌==◌, length, ℕ};
 ghost use Rattle.std.specs.List.{position};
 ghost use Rattle.std.specs.Int.{w16, w32};
-ghost use Rattle.pg_wire.specs.Reads.{number_at, bytes_at, str_at, pair_at};
-ghost use Rattle.pg_wire.specs.Unreads.{Gives};
+ghost use Rattle.pg_wire.specs.Bodies.{number_at, bytes_at, str_at, pair_at};
+ghost use Rattle.pg_wire.specs.Readers.{Gives};
 ghost use Rattle.pg_wire.specs.declared.fields.Unread.TheVariants.{NoMemory as no_memory};
 
 use crate::front::Pair;
@@ -68,7 +68,7 @@ fn zero_at(bytes: &[u8]) -> Option<usize>
 }
 
 /// Reads a text and the zero byte that ends it.
-#[tactic(auto, unfolding(crate::specs::Reads::str_at))]
+#[tactic(auto, unfolding(crate::specs::Bodies::str_at))]
 pub fn str_of(alloc: Global, bytes: &[u8]) -> Result<(Bytes, &[u8]), Unread>
     ensures { Gives (λ x. (x.0, x.1.now)) result (str_at bytes.now) }
 {
@@ -82,7 +82,7 @@ pub fn str_of(alloc: Global, bytes: &[u8]) -> Result<(Bytes, &[u8]), Unread>
 }
 
 /// Reads a name and its value.
-#[tactic(auto, unfolding(crate::specs::Reads::pair_at))]
+#[tactic(auto, unfolding(crate::specs::Bodies::pair_at))]
 pub fn pair_of(alloc: Global, bytes: &[u8]) -> Result<(Pair, &[u8]), Unread>
     ensures { Gives (λ x. (x.0, x.1.now)) result (pair_at bytes.now) }
 {

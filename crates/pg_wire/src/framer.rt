@@ -39,7 +39,8 @@ fn drop_front(bytes: &mut Vec<u8>, count: usize)
 }
 
 impl Framer {
-    /// A stream of which nothing came, with this limit on the length of a frame. It takes no memory.
+    /// A stream of which nothing came. The limit is on the length that a message tells; a startup packet
+    /// has its own. It takes no memory.
     pub fn new(alloc: Global, side: Side, limit: u32) -> Framer
         ensures { result ≡ new_stream side limit }
     {

@@ -1,6 +1,6 @@
 ghost use Rattle.std.specs.Prelude.{◌≡◌, ℕ, List};
-ghost use Rattle.pg_wire.specs.Reads.{pair_at, error_at, listed_at};
-ghost use Rattle.pg_wire.specs.Unreads.{Gives};
+ghost use Rattle.pg_wire.specs.Bodies.{pair_at, error_at, listed_at};
+ghost use Rattle.pg_wire.specs.Readers.{Gives};
 
 use crate::back::ErrorField;
 use crate::fields::{Unread, pair_of, str_of};
@@ -9,7 +9,7 @@ use acra_base::Sequence;
 use std::alloc::Global;
 
 /// Reads a field of an error.
-#[tactic(auto, unfolding(crate::specs::Reads::error_at))]
+#[tactic(auto, unfolding(crate::specs::Bodies::error_at))]
 fn error_field_of(alloc: Global, bytes: &[u8]) -> Result<(ErrorField, &[u8]), Unread>
     ensures { Gives (λ x. (x.0, x.1.now)) result (error_at bytes.now) }
 {

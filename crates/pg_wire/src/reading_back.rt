@@ -1,6 +1,6 @@
 ghost use Rattle.std.specs.Prelude.{◌≡◌, ℕ, List, IfOk};
-ghost use Rattle.pg_wire.specs.Reads.{state_at, auth_at, key_data_at, back_at, back_read};
-ghost use Rattle.pg_wire.specs.Unreads.{Gives};
+ghost use Rattle.pg_wire.specs.Bodies.{state_at, auth_at, key_data_at, back_at, back_read};
+ghost use Rattle.pg_wire.specs.Readers.{Gives};
 ghost use Rattle.pg_wire.specs.Reading.{SpellsBack, ReadsAs, ReadsExactly};
 ghost use Rattle.pg_wire.specs.declared.back.Back.{Back};
 
@@ -13,7 +13,7 @@ use acra_base::Bytes;
 use std::alloc::Global;
 
 /// Reads a state of ReadyForQuery.
-#[tactic(auto, unfolding(crate::specs::Reads::state_at))]
+#[tactic(auto, unfolding(crate::specs::Bodies::state_at))]
 fn state_of(bytes: &[u8]) -> Result<(u8, &[u8]), Unread>
     ensures { Gives (λ x. (x.0, x.1.now)) result (state_at bytes.now) }
 {
@@ -30,7 +30,7 @@ fn state_of(bytes: &[u8]) -> Result<(u8, &[u8]), Unread>
 }
 
 /// Reads an Authentication.
-#[tactic(auto, unfolding(crate::specs::Reads::auth_at))]
+#[tactic(auto, unfolding(crate::specs::Bodies::auth_at))]
 fn auth_of(alloc: Global, bytes: &[u8]) -> Result<(Back, &[u8]), Unread>
     ensures { Gives (λ x. (x.0, x.1.now)) result (auth_at bytes.now) }
 {
@@ -40,7 +40,7 @@ fn auth_of(alloc: Global, bytes: &[u8]) -> Result<(Back, &[u8]), Unread>
 }
 
 /// Reads a BackendKeyData.
-#[tactic(auto, unfolding(crate::specs::Reads::key_data_at))]
+#[tactic(auto, unfolding(crate::specs::Bodies::key_data_at))]
 fn key_data_of(bytes: &[u8]) -> Result<(Back, &[u8]), Unread>
     ensures { Gives (λ x. (x.0, x.1.now)) result (key_data_at bytes.now) }
 {
@@ -85,7 +85,7 @@ fn back_of(alloc: Global, kind: u8, body: &[u8]) -> Result<(Back, &[u8]), Unread
 }
 
 /// Reads a server's message of this type, all of the body.
-#[tactic(auto, unfolding(crate::specs::Reads::back_read))]
+#[tactic(auto, unfolding(crate::specs::Bodies::back_read))]
 fn whole_back(alloc: Global, kind: u8, body: &[u8]) -> Result<Back, Unread>
     ensures { Gives (λ m. m) result (back_read kind body.now) }
 {

@@ -1,6 +1,6 @@
 ghost use Rattle.std.specs.Prelude.{◌≡◌, ℕ, List, IfOk};
-ghost use Rattle.pg_wire.specs.Reads.{startup_at, front_at, front_read};
-ghost use Rattle.pg_wire.specs.Unreads.{Gives};
+ghost use Rattle.pg_wire.specs.Bodies.{startup_at, front_at, front_read};
+ghost use Rattle.pg_wire.specs.Readers.{Gives};
 ghost use Rattle.pg_wire.specs.Reading.{SpellsFront, ReadsAs, ReadsExactly};
 ghost use Rattle.pg_wire.specs.declared.front.Front.{Front};
 
@@ -11,7 +11,7 @@ use crate::lists::pairs_of;
 use std::alloc::Global;
 
 /// Reads a startup packet.
-#[tactic(auto, unfolding(crate::specs::Reads::startup_at))]
+#[tactic(auto, unfolding(crate::specs::Bodies::startup_at))]
 fn startup_of(alloc: Global, bytes: &[u8]) -> Result<(Front, &[u8]), Unread>
     ensures { Gives (λ x. (x.0, x.1.now)) result (startup_at bytes.now) }
 {
@@ -39,7 +39,7 @@ fn front_of(alloc: Global, kind: u8, body: &[u8]) -> Result<(Front, &[u8]), Unre
 }
 
 /// Reads a client's message of this type, all of the body.
-#[tactic(auto, unfolding(crate::specs::Reads::front_read))]
+#[tactic(auto, unfolding(crate::specs::Bodies::front_read))]
 fn whole_front(alloc: Global, kind: u8, body: &[u8]) -> Result<Front, Unread>
     ensures { Gives (λ m. m) result (front_read kind body.now) }
 {

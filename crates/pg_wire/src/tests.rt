@@ -11,8 +11,8 @@ fn frame_of(alloc: Global, side: Side, bytes: &[u8]) -> Result<Frame, Fail> {
     Ok(frame.ok_or("half a frame")?)
 }
 
-/// The server's message of these bytes, which is written as them again.
-fn back_of(rt: &impl Abort, alloc: Global, bytes: &[u8]) -> Result<Back, Fail> {
+/// Reads the server's message of these bytes, and writes it as them again.
+fn back_again(rt: &impl Abort, alloc: Global, bytes: &[u8]) -> Result<(), Fail> {
     let frame = frame_of(alloc, Side::Backend, bytes)?;
     assert!(rt; frame.body.len() < 1000);
     let Ok(message) = read_back(alloc, &frame) else {
@@ -21,106 +21,76 @@ fn back_of(rt: &impl Abort, alloc: Global, bytes: &[u8]) -> Result<Back, Fail> {
     let mut out = Vec::new(alloc);
     write_back(&message, &mut out).ok().ok_or("no memory")?;
     assert_eq!(rt; out.as_slice(), bytes);
-    Ok(message)
-}
-
-/// The client's message of these bytes, which is written as them again.
-fn front_of(rt: &impl Abort, alloc: Global, bytes: &[u8]) -> Result<Front, Fail> {
-    let frame = frame_of(alloc, Side::Client, bytes)?;
-    assert!(rt; frame.body.len() < 1000);
-    let Ok(message) = read_front(alloc, &frame) else {
-        return Err("no message".into());
-    };
-    let mut out = Vec::new(alloc);
-    write_front(&message, &mut out).ok().ok_or("no memory")?;
-    assert_eq!(rt; out.as_slice(), bytes);
-    Ok(message)
-}
-
-#[test]
-fn server_messages(rt: HostRuntime) -> Result<(), Fail> {
-    let alloc = rt.alloc();
-    assert!(rt;
-        matches!(
-            back_of(&rt, alloc, b"R\0\0\0\x0c\0\0\0\x05salt")?,
-            Back::Auth { code: 5, .. }
-        )
-    );
-    let Back::Status(pair) = back_of(&rt, alloc, b"S\0\0\0\x09ab\0c\0")? else {
-        return Err("no status".into());
-    };
-    assert_eq!(rt; pair.name.as_slice(), b"ab".as_slice());
-    assert_eq!(rt; pair.value.as_slice(), b"c".as_slice());
-    assert!(rt;
-        matches!(
-            back_of(&rt, alloc, b"K\0\0\0\x0c\0\0\0\x01\0\0\x01\x02")?,
-            Back::KeyData {
-                process: 1,
-                key: 258
-            }
-        )
-    );
-    assert!(rt; matches!(back_of(&rt, alloc, b"Z\0\0\0\x05I")?, Back::Ready(b'I')));
-    let Back::Complete(tag) = back_of(&rt, alloc, b"C\0\0\0\x0dSELECT 1\0")? else {
-        return Err("no tag".into());
-    };
-    assert_eq!(rt; tag.as_slice(), b"SELECT 1".as_slice());
     Ok(())
 }
 
+// A column `id` of table 256, attribute 2, type 25, size and modifier -1, in binary.
+const ROW: &[u8] = b"T\0\0\0\x1b\0\x01id\0\0\0\x01\0\0\x02\0\0\0\x19\xff\xff\xff\xff\xff\xff\0\x01";
+// NULL, the text `7` and the empty text.
+const CELLS: &[u8] = b"D\0\0\0\x13\0\x03\xff\xff\xff\xff\0\0\0\x017\0\0\0\0";
+
 #[test]
-fn rows(rt: HostRuntime) -> Result<(), Fail> {
-    let alloc = rt.alloc();
-    let bytes = b"T\0\0\0\x1b\0\x01id\0\0\0\x01\0\0\x02\0\0\0\x19\xff\xff\xff\xff\xff\xff\0\x01";
-    let Back::Row(fields) = back_of(&rt, alloc, bytes)? else {
-        return Err("no row".into());
-    };
-    assert_eq!(rt; fields.len(), 1);
-    for field in fields.as_slice() {
-        assert_eq!(rt; field.name.as_slice(), b"id".as_slice());
-        assert_eq!(rt; field.table, 256);
-        assert_eq!(rt; field.attribute, 2);
-        assert_eq!(rt; field.kind, 25);
-        assert_eq!(rt; field.size, -1);
-        assert_eq!(rt; field.modifier, -1);
-        assert_eq!(rt; field.format, 1);
+fn server_messages(rt: HostRuntime) -> Result<(), Fail> {
+    let messages: [&[u8]; 8] = [
+        b"R\0\0\0\x0c\0\0\0\x05salt",
+        b"S\0\0\0\x09ab\0c\0",
+        b"K\0\0\0\x0c\0\0\0\x01\0\0\x01\x02",
+        b"Z\0\0\0\x05I",
+        ROW,
+        CELLS,
+        b"C\0\0\0\x0dSELECT 1\0",
+        b"E\0\0\0\x10C42601\0Mno\0\0",
+    ];
+    for bytes in messages {
+        back_again(&rt, rt.alloc(), bytes)?;
     }
-    let bytes = b"D\0\0\0\x13\0\x03\xff\xff\xff\xff\0\0\0\x017\0\0\0\0";
-    let Back::Cells(cells) = back_of(&rt, alloc, bytes)? else {
-        return Err("no cells".into());
-    };
-    let [null, seven, empty] = cells.as_slice() else {
-        return Err("not three cells".into());
-    };
-    assert!(rt; null.is_none());
-    assert!(rt; matches!(seven, Some(bytes) if bytes.as_slice() == b"7".as_slice()));
-    assert!(rt; matches!(empty, Some(bytes) if bytes.is_empty()));
-    let bytes = b"E\0\0\0\x10C42601\0Mno\0\0";
-    let Back::Error(fields) = back_of(&rt, alloc, bytes)? else {
-        return Err("no error".into());
-    };
-    let [code, text] = fields.as_slice() else {
-        return Err("not two fields".into());
-    };
-    assert_eq!(rt; code.code, b'C');
-    assert_eq!(rt; code.text.as_slice(), b"42601".as_slice());
-    assert_eq!(rt; text.code, b'M');
-    assert_eq!(rt; text.text.as_slice(), b"no".as_slice());
     Ok(())
 }
 
 #[test]
 fn client_messages(rt: HostRuntime) -> Result<(), Fail> {
-    let alloc = rt.alloc();
-    let Front::Startup { params } = front_of(&rt, alloc, b"\0\0\0\x11\0\x03\0\0user\0bo\0\0")?
-    else {
-        return Err("no startup packet".into());
-    };
-    assert_eq!(rt; params.len(), 1);
-    for pair in params.as_slice() {
-        assert_eq!(rt; pair.name.as_slice(), b"user".as_slice());
-        assert_eq!(rt; pair.value.as_slice(), b"bo".as_slice());
+    let bytes = b"\0\0\0\x11\0\x03\0\0user\0bo\0\0Q\0\0\0\x06a\0X\0\0\0\x04";
+    let mut framer = Framer::new(rt.alloc(), Side::Client, 1000);
+    framer.feed(bytes.as_slice()).ok().ok_or("no memory")?;
+    let mut out = Vec::new(rt.alloc());
+    for _ in 0..3 {
+        let frame = framer.next().ok().ok_or("no frame")?.ok_or("half a frame")?;
+        assert!(rt; frame.body.len() < 1000);
+        let Ok(message) = read_front(rt.alloc(), &frame) else {
+            return Err("no message".into());
+        };
+        write_front(&message, &mut out).ok().ok_or("no memory")?;
     }
+    assert_eq!(rt; out.as_slice(), bytes.as_slice());
+    Ok(())
+}
+
+#[test]
+fn column(rt: HostRuntime) -> Result<(), Fail> {
+    let frame = frame_of(rt.alloc(), Side::Backend, ROW)?;
+    let Ok(Back::Row(fields)) = read_back(rt.alloc(), &frame) else {
+        return Err("no row".into());
+    };
+    assert_eq!(rt; fields.len(), 1);
+    for field in fields.as_slice() {
+        assert!(rt; field.name.as_slice() == b"id".as_slice());
+        assert_eq!(rt; (field.table, field.attribute, field.kind), (256, 2, 25));
+        assert_eq!(rt; (field.size, field.modifier, field.format), (-1, -1, 1));
+    }
+    Ok(())
+}
+
+#[test]
+fn cells(rt: HostRuntime) -> Result<(), Fail> {
+    let frame = frame_of(rt.alloc(), Side::Backend, CELLS)?;
+    let Ok(Back::Cells(cells)) = read_back(rt.alloc(), &frame) else {
+        return Err("no cells".into());
+    };
+    let [None, Some(seven), Some(empty)] = cells.as_slice() else {
+        return Err("not these cells".into());
+    };
+    assert!(rt; seven.as_slice() == b"7".as_slice());
+    assert!(rt; empty.is_empty());
     Ok(())
 }
 

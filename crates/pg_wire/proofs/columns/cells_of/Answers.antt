@@ -1,5 +1,5 @@
 use Rattle.std.proofs.lemmas.Result.{err_from_is_err_and}
-use Rattle.pg_wire.specs.Reads.{cell_at, items_at}
+use Rattle.pg_wire.specs.Bodies.{cell_at, items_at}
 use Rattle.pg_wire.proofs.Loops.{goes_on, fails, is_done}
 use Rattle.pg_wire.proofs.columns.cells_of.Goals as goal
 

@@ -1,5 +1,5 @@
 use Rattle.std.proofs.Common.{◌≡◌, ◌-◌}
-use Rattle.pg_wire.specs.Reads.{cell_at, items_at}
+use Rattle.pg_wire.specs.Bodies.{cell_at, items_at}
 use Rattle.pg_wire.proofs.Loops.{with_front}
 use Rattle.pg_wire.proofs.columns.cells_of.Given as goal
 

@@ -1,5 +1,5 @@
 use Rattle.std.proofs.Common.{◌≡◌, ◌-◌}
-use Rattle.pg_wire.specs.Reads.{field_at, items_at}
+use Rattle.pg_wire.specs.Bodies.{field_at, items_at}
 use Rattle.pg_wire.proofs.Loops.{with_front}
 use Rattle.pg_wire.proofs.columns.fields_of.Given as goal
 

@@ -1,7 +1,7 @@
 use Rattle.std.proofs.Common.{◌≤◌, length, sym, ◌∙◌, arith}
 use Rattle.std.proofs.lemmas.Bool.{eqb-true, eqb-false}
 use Rattle.std.proofs.lemmas.Result.{err_from_is_err_and}
-use Rattle.pg_wire.specs.Reads.{error_at, listed_at}
+use Rattle.pg_wire.specs.Bodies.{error_at, listed_at}
 use Rattle.pg_wire.proofs.Shorter.{error_shorter}
 use Rattle.pg_wire.proofs.Loops.{list_missing, list_ends, list_goes_on, list_fails}
 use Rattle.pg_wire.proofs.lists.error_fields_of.Goals as goal

@@ -1,5 +1,5 @@
 use Rattle.std.proofs.Common.{length}
-use Rattle.pg_wire.specs.Reads.{error_at, listed_at}
+use Rattle.pg_wire.specs.Bodies.{error_at, listed_at}
 use Rattle.pg_wire.proofs.Loops.{Listing}
 use Rattle.pg_wire.proofs.lists.error_fields_of.Given as goal
 

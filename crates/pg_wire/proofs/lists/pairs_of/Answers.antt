@@ -1,7 +1,7 @@
 use Rattle.std.proofs.Common.{◌≤◌, length, sym, ◌∙◌, arith}
 use Rattle.std.proofs.lemmas.Bool.{eqb-true, eqb-false}
 use Rattle.std.proofs.lemmas.Result.{err_from_is_err_and}
-use Rattle.pg_wire.specs.Reads.{pair_at, listed_at}
+use Rattle.pg_wire.specs.Bodies.{pair_at, listed_at}
 use Rattle.pg_wire.proofs.Shorter.{pair_shorter}
 use Rattle.pg_wire.proofs.Loops.{list_missing, list_ends, list_goes_on, list_fails}
 use Rattle.pg_wire.proofs.lists.pairs_of.Goals as goal

@@ -6,12 +6,13 @@ const LIMIT: u32 = 1 << 20;
 
 /// Whether the text is read as a SELECT of these columns, each under its own name.
 fn selects(alloc: Global, text: &str, columns: &[&str]) -> bool {
-    let Ok(
-        Statement::Select {
-            table,
-            items: Items::Columns(items),
-        },
-    ) = parse(alloc, text.as_bytes(), LIMIT)
+    let Ok(statement) = parse(alloc, text.as_bytes(), LIMIT) else {
+        return false;
+    };
+    let Statement::Select {
+        table,
+        items: Items::Columns(items),
+    } = &statement
     else {
         return false;
     };
@@ -29,17 +30,18 @@ fn selects(alloc: Global, text: &str, columns: &[&str]) -> bool {
 
 /// Whether the text is read as an INSERT of this number and this string, with or without a list of columns.
 fn inserts(alloc: Global, text: &str, listed: bool, number: i128, content: &str) -> bool {
-    let Ok(
-        Statement::Insert {
-            table,
-            columns,
-            rows,
-        },
-    ) = parse(alloc, text.as_bytes(), LIMIT)
+    let Ok(statement) = parse(alloc, text.as_bytes(), LIMIT) else {
+        return false;
+    };
+    let Statement::Insert {
+        table,
+        columns,
+        rows,
+    } = &statement
     else {
         return false;
     };
-    let named = match &columns {
+    let named = match columns {
         None => !listed,
         Some(columns) => match columns.as_slice() {
             [id, body] => {

@@ -1,5 +1,5 @@
 -- A piece that isn't next keeps what it belongs to from being next.
-use Rattle.std.proofs.Common.{◌≡◌, ℕ, ◌<◌, ◌^◌, inl, inr, Bool, true, false, List, [], ◌∷◌, ◌++◌, ap, subst, ◌∙◌, refl, sym}
+use Rattle.std.proofs.Common.{◌≡◌, ℕ, ◌<◌, ◌^◌, inl, inr, Bool, true, false, List, [], ◌∷◌, ◌++◌, ap, subst, ◌∙◌, sym}
 use Rattle.std.specs.Prelude.{codes, Contains, Option, Some, None, Result, Ok, Err, IsErrAnd}
 use Rattle.std.proofs.lemmas.List.{append-nil}
 use Rattle.std.proofs.lemmas.Result.{err_from_is_err_and}
@@ -10,14 +10,14 @@ use Rattle.sql_profile.specs.declared.statement.Item.{Item}
 use Rattle.sql_profile.specs.declared.statement.Items.TheVariants as select
 use Rattle.sql_profile.specs.declared.statement.Statement.{Statement}
 use Rattle.sql_profile.specs.declared.statement.Statement.TheVariants as statement
-use Rattle.sql_profile.specs.Tree.{IsItem, AreItems, AreColumns, id, body, notes}
+use Rattle.sql_profile.specs.Tree.{AreItems, AreColumns, id, body, notes}
 use Rattle.sql_profile.specs.Tokens.{Token, Lexes}
 use Rattle.sql_profile.specs.Grammar.{comma, tokens_of}
 use Rattle.sql_profile.specs.Takes.{Takes, Lacks}
 use Rattle.sql_profile.specs.Cursor.{Expects, ExpectsEither}
 use Rattle.sql_profile.specs.Pieces.{selected, headed, row_tokens, IsRow, IsSelect, IsInsert, IsRead, tokens_behind}
 use Rattle.sql_profile.proofs.Fronts.{takes_then}
-use Rattle.sql_profile.proofs.Unique.{one_selected, one_headed, one_row, select_behind, insert_behind, select_first, insert_first, select_is_no_insert}
+use Rattle.sql_profile.proofs.Unique.{select_behind, insert_behind, select_first, insert_first, select_is_no_insert}
 
 fails : {V W : Type 0} (Is : V → Type 0) (tokens : V → List Token) (Are : W → Type 0) (others : W → List Token) (mid now old new : List ℕ) (e : ParseFault) → Expects Is tokens mid (Err e) now
     → (((v : V) → Is v → Lacks mid (tokens v)) → (w : W) → Are w → Lacks old (others w)) → Expects Are others old (Err e) new

@@ -1,12 +1,11 @@
 -- Doubling the quotes of a text: it stays UTF-8, and it was UTF-8.
-use Rattle.std.proofs.Common.{◌≡◌, ℕ, suc, ◌+◌, ◌<◌, ◌⊎◌, Bool, true, false, ◌&&◌, ◌==◌, subst, inl, inr, List, [], ◌∷◌, ◌++◌, length, get_or, append_assoc, ap, ◌∙◌, refl, sym, arith}
-use Rattle.std.proofs.lemmas.Grind.{common_steps}
+use Rattle.std.proofs.Common.{◌≡◌, ℕ, suc, ◌<◌, ◌⊎◌, Bool, true, false, ◌&&◌, ◌==◌, subst, inl, inr, List, [], ◌∷◌, ◌++◌, length, get_or, ap, ◌∙◌, refl, sym, arith}
 use Rattle.std.proofs.lemmas.List.{append-nil}
 use Rattle.std.proofs.lemmas.Bool.Decides.{nat_tests, eqb_tells}
 use Rattle.std.specs.Str.{IsUtf8}
 use Rattle.std.specs.Prelude.{if◌then◌else◌}
 use Rattle.std.proofs.Math.Utf8.{encode, encodes, scalar, scalars}
-use Rattle.std.proofs.lemmas.Str.{inside_one, encode_ascii, char_from_byte, encodes-append}
+use Rattle.std.proofs.lemmas.Str.{inside_one, encode_ascii, char_from_byte}
 use Rattle.sql_profile.specs.Tokens.{doubled}
 
 -- no quote is in it

@@ -1,12 +1,10 @@
 -- What the next token says of what was looked for.
-use Rattle.std.proofs.Common.{◌≡◌, ℕ, ◌≢◌, Bool, true, false, List, [], ◌∷◌, ◌++◌, ap, subst, ◌∙◌, refl, sym}
-use Rattle.std.specs.Prelude.{Option, Some, None, Result, Ok, Err}
+use Rattle.std.proofs.Common.{◌≡◌, ℕ, List, [], ◌∷◌, ap, subst}
+use Rattle.std.specs.Prelude.{Option, Some, None, Ok}
 use Rattle.sql_profile.specs.declared.token.Token as read
-use Rattle.sql_profile.specs.declared.fault.ParseFault.{ParseFault}
-use Rattle.sql_profile.specs.declared.fault.ParseFault.TheVariants as faults
-use Rattle.sql_profile.specs.Tokens.{Token, Lexes}
+use Rattle.sql_profile.specs.Tokens.{Token}
 use Rattle.sql_profile.specs.Takes.{Takes, Lacks}
-use Rattle.sql_profile.specs.Cursor.{seen, token_of, Next, Expects, ExpectsEither}
+use Rattle.sql_profile.specs.Cursor.{seen, token_of, Next}
 
 pub takes_seen : (old new : List ℕ) (found : Option read.Token) (t : Token) → Next old (Ok found) new → seen found ≡ Some t → Takes old (t ∷ []) new
 takes_seen old new None t n e = cc

@@ -1,11 +1,9 @@
 -- A text has one reading as tokens.
-use Rattle.std.proofs.Common.{◌≡◌, ℕ, zero, suc, ◌+◌, ◌*◌, ◌-◌, ◌<◌, ◌≤◌, ◌^◌, ◌⊎◌, ◌&&◌, ◌||◌, ◌==◌, nat_eq, Bool, true, false, inl, inr, List, [], ◌∷◌, ◌++◌, length, map, append_assoc, ap, subst, ◌∙◌, refl, sym, arith}
-use Rattle.std.specs.Prelude.{codes, nat_le, nat_lt}
+use Rattle.std.proofs.Common.{◌≡◌, ℕ, ◌<◌, ◌≤◌, ◌^◌, ◌⊎◌, ◌&&◌, nat_eq, Bool, true, false, inl, inr, List, [], ◌∷◌, ◌++◌, map, ap, subst, ◌∙◌, refl, sym, arith}
 use Rattle.std.specs.List.{list_all}
-use Rattle.std.proofs.lemmas.Grind.{common_steps}
 use Rattle.std.proofs.lemmas.List.{append-nil}
 use Rattle.std.proofs.lemmas.Bool.Decides.{nat_tests}
-use Rattle.sql_profile.specs.Tokens.{Token, Lexes, Stops, is_space, is_digit, is_upper, begins_word, goes_on_word, is_sign, number_from, doubled, folded}
+use Rattle.sql_profile.specs.Tokens.{Token, Lexes, Stops, is_space, is_digit, begins_word, goes_on_word, is_sign, number_from, doubled, folded}
 use Rattle.sql_profile.specs.Takes.{Takes}
 use Rattle.sql_profile.proofs.Doubling.{quote_or_other, doubled_other}
 

@@ -1,12 +1,11 @@
 -- The canonical text of a statement spells it.
-use Rattle.std.proofs.Common.{◌≡◌, ℕ, pos, ◌+◌, ◌<◌, ◌≤◌, ◌^◌, Bool, true, false, inl, inr, List, [], ◌∷◌, ◌++◌, length, append_assoc, ap, subst, ◌∙◌, refl, sym, arith}
-use Rattle.std.specs.Prelude.{codes, Option, Some, None, nat_lt, nat_eq, ◌&&◌, map}
+use Rattle.std.proofs.Common.{◌≡◌, ℕ, pos, ◌<◌, ◌≤◌, ◌^◌, Bool, true, inl, inr, List, [], ◌∷◌, ◌++◌, length, append_assoc, ap, subst, refl, sym, arith}
+use Rattle.std.specs.Prelude.{codes, Option, Some, None, nat_lt}
 use Rattle.std.specs.Fmt.{decimal}
 use Rattle.std.specs.List.{list_all}
 use Rattle.std.specs.Str.{IsUtf8}
-use Rattle.std.proofs.lemmas.Grind.{common_steps}
 use Rattle.std.proofs.lemmas.Bool.Decides.{nat_tests}
-use Rattle.std.proofs.lemmas.Str.{IsUtf8-append, IsUtf8-from_is_utf8, IsUtf8-from_ascii}
+use Rattle.std.proofs.lemmas.Str.{IsUtf8-append, IsUtf8-from_ascii}
 use Rattle.std.proofs.lemmas.Fmt.{IsAscii-decimal}
 use Rattle.sql_profile.specs.declared.statement.Operand.{Operand}
 use Rattle.sql_profile.specs.declared.statement.Operand.TheVariants as operand
@@ -14,11 +13,10 @@ use Rattle.sql_profile.specs.declared.statement.Item.{Item}
 use Rattle.sql_profile.specs.declared.statement.Items.TheVariants as select
 use Rattle.sql_profile.specs.declared.statement.Statement.{Statement}
 use Rattle.sql_profile.specs.declared.statement.Statement.TheVariants as statement
-use Rattle.sql_profile.specs.Tree.{IsColumn, IsItem, AreItems, AreColumns, AreRows, AreValues, IsString, IsStatement, id, body, notes}
-use Rattle.sql_profile.specs.Tokens.{Token, Lexes, Stops, goes_on_word, is_digit, number_from, doubled, folded}
-use Rattle.sql_profile.specs.Grammar.{Spells, tokens_of, listed, in_parentheses, value_tokens, list_tokens, comma}
-use Rattle.sql_profile.specs.Canonical.{canon, joined, parenthesized, value_text, list_text, quoted}
-use Rattle.std.proofs.Math.Utf8.{encodes, scalars}
+use Rattle.sql_profile.specs.Tree.{IsColumn, AreItems, AreColumns, IsString, IsStatement, id, body, notes}
+use Rattle.sql_profile.specs.Tokens.{Token, Lexes, Stops, goes_on_word, is_digit, number_from, doubled}
+use Rattle.sql_profile.specs.Grammar.{Spells, tokens_of, comma}
+use Rattle.sql_profile.specs.Canonical.{canon, joined, parenthesized, value_text}
 use Rattle.std.proofs.lemmas.Str.{encode_ascii}
 use Rattle.sql_profile.proofs.Digits.{decimal_spells}
 use Rattle.sql_profile.proofs.Doubling.{utf8_doubled}

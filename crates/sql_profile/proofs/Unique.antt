@@ -1,5 +1,5 @@
 -- A text spells one statement.
-use Rattle.std.proofs.Common.{◌≡◌, ℕ, pos, List, [], ◌∷◌, ◌++◌, ap, subst, ◌∙◌, refl, sym, inl, inr, append_assoc, arith}
+use Rattle.std.proofs.Common.{◌≡◌, ℕ, pos, List, [], ◌∷◌, ◌++◌, ap, ◌∙◌, refl, sym, inl, inr, append_assoc, arith}
 use Rattle.std.specs.Prelude.{codes, Option, Some, None}
 use Rattle.sql_profile.specs.declared.statement.Operand.{Operand}
 use Rattle.sql_profile.specs.declared.statement.Operand.TheVariants as operand
@@ -7,9 +7,9 @@ use Rattle.sql_profile.specs.declared.statement.Item.{Item}
 use Rattle.sql_profile.specs.declared.statement.Items.TheVariants as select
 use Rattle.sql_profile.specs.declared.statement.Statement.{Statement}
 use Rattle.sql_profile.specs.declared.statement.Statement.TheVariants as statement
-use Rattle.sql_profile.specs.Tree.{IsItem, AreItems, AreColumns, AreRows, AreValues, IsStatement, id, body, notes}
+use Rattle.sql_profile.specs.Tree.{IsItem, AreItems, AreColumns, IsStatement, id, body}
 use Rattle.sql_profile.specs.Tokens.{Token}
-use Rattle.sql_profile.specs.Grammar.{Spells, tokens_of, listed, in_parentheses, value_tokens, list_tokens, comma}
+use Rattle.sql_profile.specs.Grammar.{Spells, tokens_of, listed, list_tokens}
 use Rattle.sql_profile.specs.Pieces.{selected, headed, row_tokens, IsRow, IsSelect, IsInsert, IsRead, without_first, tokens_behind}
 use Rattle.sql_profile.proofs.Lexing.{one_lexing}
 

@@ -1,10 +1,10 @@
 -- What a whole text that was read is.
-use Rattle.std.proofs.Common.{◌≡◌, ℕ, pos, ◌+◌, ◌<◌, ◌≤◌, ◌&&◌, nat_le, Bool, true, false, inl, inr, List, [], ◌∷◌, ◌++◌, length, drop, take, get_or, append_assoc, ap, subst, ◌∙◌, refl, sym, arith}
-use Rattle.std.specs.Prelude.{codes, Option, Some, None, Result, Ok, Err, IfOk, IsErrAnd, MatchResult, is_err}
+use Rattle.std.proofs.Common.{◌≡◌, ℕ, pos, ◌<◌, ◌≤◌, ◌&&◌, Bool, true, false, inl, inr, List, [], ◌∷◌, ◌++◌, length, drop, take, get_or, ap, subst, ◌∙◌, refl, sym, arith}
+use Rattle.std.specs.Prelude.{Option, Some, None, Result, Ok, Err, IfOk, IsErrAnd, MatchResult, is_err}
 use Rattle.std.proofs.lemmas.List.{append-nil}
 use Rattle.std.proofs.lemmas.Result.{err_from_is_err_and}
 use Rattle.std.specs.List.{list_all}
-use Rattle.std.specs.Str.{IsUtf8, IsCharBoundary}
+use Rattle.std.specs.Str.{IsUtf8}
 use Rattle.std.proofs.lemmas.Grind.{common_steps}
 use Rattle.std.proofs.lemmas.Bool.Decides.{nat_tests}
 use Rattle.std.proofs.lemmas.Str.{IsUtf8-take, IsUtf8-drop, IsCharBoundary-before_ascii, IsCharBoundary-after_ascii}
@@ -13,16 +13,15 @@ use Rattle.sql_profile.specs.declared.statement.Operand.TheVariants as operand
 use Rattle.sql_profile.specs.declared.statement.Items.TheVariants as select
 use Rattle.sql_profile.specs.declared.statement.Statement.{Statement}
 use Rattle.sql_profile.specs.declared.statement.Statement.TheVariants as statement
-use Rattle.sql_profile.specs.declared.token.Token as read
 use Rattle.sql_profile.specs.declared.fault.ParseFault.{ParseFault}
 use Rattle.sql_profile.specs.declared.fault.ParseFault.TheVariants as faults
-use Rattle.sql_profile.specs.Tree.{IsStatement, IsString, AreValues, AreColumns, id, body, notes}
+use Rattle.sql_profile.specs.Tree.{IsStatement, AreColumns, id, body, notes}
 use Rattle.sql_profile.specs.Tokens.{Token, Lexes, is_space, is_digit, is_sign, begins_word, goes_on_word, doubled}
 use Rattle.sql_profile.specs.Grammar.{Spells, tokens_of}
-use Rattle.sql_profile.specs.Takes.{Takes, Lacks}
-use Rattle.sql_profile.specs.Cursor.{Ends, Next, Expects, token_of}
-use Rattle.sql_profile.specs.Pieces.{IsRead, IsSelect, IsInsert, IsRow, ReadsWhole}
-use Rattle.sql_profile.specs.Reading.{ReadsAs, IsParseFault}
+use Rattle.sql_profile.specs.Takes.{Takes}
+use Rattle.sql_profile.specs.Cursor.{Ends, Next, Expects}
+use Rattle.sql_profile.specs.Pieces.{IsRead, IsRow, ReadsWhole}
+use Rattle.sql_profile.specs.Reading.{ReadsAs}
 use Rattle.sql_profile.proofs.Doubling.{utf8_undoubled}
 use Rattle.sql_profile.proofs.Unique.{one_statement, one_reading, read_of}
 

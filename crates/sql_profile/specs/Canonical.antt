@@ -1,11 +1,10 @@
 -- The canonical text of a statement: keywords in upper case, one space between words, after each comma and before a
 -- parenthesis; numbers in decimal, strings in quotes.
-use Rattle.std.specs.Prelude.{ℕ, ℤ, List, [], ◌∷◌, ◌++◌, codes, Option, Some, None}
+use Rattle.std.specs.Prelude.{ℕ, List, [], ◌∷◌, ◌++◌, codes, Option, Some, None}
 use Rattle.std.specs.Fmt.{signed_decimal}
 use Rattle.sql_profile.specs.declared.statement.Operand.{Operand}
 use Rattle.sql_profile.specs.declared.statement.Operand.TheVariants as operand
 use Rattle.sql_profile.specs.declared.statement.Item.{Item}
-use Rattle.sql_profile.specs.declared.statement.Items.{Items}
 use Rattle.sql_profile.specs.declared.statement.Items.TheVariants as select
 use Rattle.sql_profile.specs.declared.statement.Statement.{Statement}
 use Rattle.sql_profile.specs.declared.statement.Statement.TheVariants as statement

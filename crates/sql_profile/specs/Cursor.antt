@@ -1,5 +1,5 @@
 -- What reading the next token does.
-use Rattle.std.specs.Prelude.{ℕ, ◌≡◌, ◌⊎◌, true, false, nat_eq, Bool, List, [], ◌∷◌, Option, Some, None, Result, Ok, Err}
+use Rattle.std.specs.Prelude.{ℕ, ◌≡◌, true, false, nat_eq, Bool, List, [], ◌∷◌, Option, Some, None, Result, Ok, Err}
 use Rattle.sql_profile.specs.declared.token.Token as read
 use Rattle.sql_profile.specs.declared.token.Token.TheVariants as reads
 use Rattle.sql_profile.specs.declared.cursor.Kind.{Kind}

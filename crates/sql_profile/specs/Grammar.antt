@@ -3,17 +3,15 @@
 --     text   = INSERT INTO notes [ "(" id "," body ")" ] VALUES "(" number "," string ")"
 --            | SELECT column [ "," column ] FROM notes
 --     column = id | body
-use Rattle.std.specs.Prelude.{ℕ, ℤ, pos, negsuc, ◌≡◌, List, [], ◌∷◌, ◌++◌, codes, Option, Some, None}
-use Rattle.std.specs.List.{flat_map}
+use Rattle.std.specs.Prelude.{ℕ, pos, negsuc, List, [], ◌∷◌, ◌++◌, codes, Option, Some, None}
 use Rattle.std.specs.Str.{IsUtf8}
 use Rattle.sql_profile.specs.declared.statement.Operand.{Operand}
 use Rattle.sql_profile.specs.declared.statement.Operand.TheVariants as operand
 use Rattle.sql_profile.specs.declared.statement.Item.{Item}
-use Rattle.sql_profile.specs.declared.statement.Items.{Items}
 use Rattle.sql_profile.specs.declared.statement.Items.TheVariants as select
 use Rattle.sql_profile.specs.declared.statement.Statement.{Statement}
 use Rattle.sql_profile.specs.declared.statement.Statement.TheVariants as statement
-use Rattle.sql_profile.specs.Tree.{IsStatement, IsString}
+use Rattle.sql_profile.specs.Tree.{IsStatement}
 use Rattle.sql_profile.specs.Tokens.{Token, Lexes}
 
 abbrev pub comma : Token

@@ -1,5 +1,5 @@
 -- What parsing answers.
-use Rattle.std.specs.Prelude.{◌≡◌, ◌⊎◌, Result, Ok, Err}
+use Rattle.std.specs.Prelude.{◌≡◌, Result, Ok, Err}
 use Rattle.sql_profile.specs.declared.statement.Statement.{Statement}
 use Rattle.sql_profile.specs.declared.fault.SqlKind.TheVariants as kinds
 use Rattle.sql_profile.specs.declared.fault.SqlRefusal.{SqlRefusal}

@@ -1,5 +1,5 @@
 -- Reading tokens from the front of a text.
-use Rattle.std.specs.Prelude.{ℕ, ◌≡◌, List, [], ◌∷◌, ◌++◌}
+use Rattle.std.specs.Prelude.{ℕ, ◌≡◌, List, ◌++◌}
 use Rattle.sql_profile.specs.Tokens.{Token, Lexes}
 
 -- the text is these tokens, and then what the rest is

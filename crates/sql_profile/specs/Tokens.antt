@@ -1,6 +1,6 @@
 -- Tokens: words, numbers, strings and signs. Space, tab, newline, carriage return and form feed separate them.
 -- Words and digits are read as far as they go.
-use Rattle.std.specs.Prelude.{ℕ, ◌≡◌, ◌+◌, ◌-◌, ◌*◌, ◌^◌, ◌<◌, nat_le, nat_eq, nat_lt, ◌&&◌, ◌||◌, ◌==◌, not, Bool, true, false, if◌then◌else◌, List, [], ◌∷◌, ◌++◌, map, codes}
+use Rattle.std.specs.Prelude.{ℕ, ◌≡◌, ◌+◌, ◌-◌, ◌*◌, ◌^◌, ◌<◌, nat_le, nat_eq, ◌&&◌, ◌||◌, ◌==◌, Bool, true, false, if◌then◌else◌, List, [], ◌∷◌, ◌++◌, map, codes}
 use Rattle.std.specs.List.{list_any, list_all, flat_map}
 
 -- a word in lower case, a number, a string with its quotes undoubled, a sign

@@ -1,10 +1,9 @@
 -- The statements of this stage, as trees.
-use Rattle.std.specs.Prelude.{ℕ, ℤ, pos, ◌≡◌, ◌^◌, ◌<◌, ◌⊎◌, List, [], ◌∷◌, codes, Contains, Option, Some, None}
+use Rattle.std.specs.Prelude.{ℕ, pos, ◌≡◌, ◌^◌, ◌<◌, ◌⊎◌, List, [], ◌∷◌, codes, Contains, Option, Some, None}
 use Rattle.std.specs.Str.{IsUtf8}
 use Rattle.sql_profile.specs.declared.statement.Operand.{Operand}
 use Rattle.sql_profile.specs.declared.statement.Operand.TheVariants as operand
 use Rattle.sql_profile.specs.declared.statement.Item.{Item}
-use Rattle.sql_profile.specs.declared.statement.Items.{Items}
 use Rattle.sql_profile.specs.declared.statement.Items.TheVariants as select
 use Rattle.sql_profile.specs.declared.statement.Statement.{Statement}
 use Rattle.sql_profile.specs.declared.statement.Statement.TheVariants as statement

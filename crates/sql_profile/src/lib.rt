@@ -18,3 +18,6 @@ pub use laws::{canonical_text_spells, one_reading};
 pub use parser::parse;
 pub use printer::print;
 pub use statement::{Item, Items, Operand, Statement};
+
+#[cfg(test)]
+mod tests;

@@ -1,4 +1,4 @@
-use Rattle.std.proofs.Common.{arith, ◌≤◌, ◌≡◌, ◌∙◌, sym, subst, length, ℕ, List}
+use Rattle.std.proofs.Common.{◌∙◌, sym, subst, ℕ, List}
 use Rattle.std.specs.Str.{IsUtf8}
 use Rattle.sql_profile.specs.Pieces.{ReadsWhole}
 use Rattle.sql_profile.proofs.Whole.{found_whole, only_whole, if_no_error}

@@ -1,4 +1,4 @@
-use Rattle.std.proofs.Common.{◌∷◌, []}
+use Rattle.std.proofs.Common.{◌∷◌}
 use Rattle.sql_profile.specs.Tree.{AreItems, notes}
 use Rattle.sql_profile.specs.Tokens.{Token}
 use Rattle.sql_profile.specs.Pieces.{selected, IsSelect, tokens_behind}

@@ -1,6 +1,4 @@
 use Rattle.std.proofs.Common.{◌∙◌}
-use Rattle.sql_profile.specs.Tokens.{Token, doubled}
-use Rattle.sql_profile.specs.Takes.{Takes}
 use Rattle.sql_profile.proofs.Fronts.{string_on, string_end, string_open}
 use Rattle.sql_profile.proofs.cursor.Cursor.string.Goals as goal
 

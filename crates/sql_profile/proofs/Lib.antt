@@ -4,3 +4,7 @@ pub mod Digits
 pub mod Printed
 pub mod Lexing
 pub mod Unique
+pub mod Fronts
+pub mod Expecting
+pub mod Composing
+pub mod Whole

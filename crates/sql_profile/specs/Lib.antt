@@ -3,5 +3,8 @@ pub mod Tree
 pub mod Tokens
 pub mod Grammar
 pub mod Takes
+pub mod Runs
 pub mod Canonical
 pub mod Reading
+pub mod Cursor
+pub mod Pieces

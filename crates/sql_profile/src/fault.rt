@@ -1,3 +1,4 @@
+use acra_base::NoMemory;
 use thiserror::Error;
 
 /// Why a text is refused.
@@ -25,4 +26,23 @@ pub enum ParseFault {
     /// There was no memory for the tree.
     #[error("out of memory")]
     NoMemory,
+}
+
+impl ParseFault {
+    /// The one refusal of this stage.
+    pub(crate) const OUTSIDE_PROFILE: ParseFault = ParseFault::Refused(SqlRefusal {
+        place: 0,
+        kind: SqlKind::OutsideProfile,
+    });
+}
+
+impl From<NoMemory> for ParseFault {
+    ghost use Rattle.std.specs.Prelude.{◌≡◌};
+    ghost use Rattle.sql_profile.specs.declared.fault.ParseFault.TheVariants as faults;
+
+    ghost from_gives = { λ _ fault. fault ≡ faults.NoMemory };
+
+    fn from(_: NoMemory) -> Self {
+        ParseFault::NoMemory
+    }
 }

@@ -1,12 +1,12 @@
 -- Frames and faults of one stream.
-use Rattle.std.proofs.Common.{◌≡◌, ℕ, zero, suc, ◌+◌, ◌-◌, ◌^◌, ◌≤◌, ◌<◌, Bool, true, false, List, [], ◌∷◌, ◌++◌, length, take, drop, refl, sym, ap, subst, ◌∙◌, append_assoc, arith}
-use Rattle.std.specs.Int.{w32, from_be_bytes, to_be_bytes}
+use Rattle.std.proofs.Common.{◌≡◌, ℕ, ◌+◌, ◌^◌, ◌≤◌, ◌<◌, Bool, true, false, List, [], ◌∷◌, ◌++◌, length, take, drop, refl, sym, ap, ◌∙◌, arith}
+use Rattle.std.specs.Int.{w32, from_be_bytes}
 use Rattle.std.proofs.lemmas.List.{take_at, append_cancel_left, take-append-le, length-append}
 use Rattle.std.proofs.lemmas.Nat.{from_be_bytes-to_be_bytes_4}
 use Rattle.pg_wire.specs.declared.frame.Side.{Side}
 use Rattle.pg_wire.specs.declared.frame.FrameFault.{FrameFault}
 use Rattle.pg_wire.specs.declared.frame.FrameFault.TheVariants as faults
-use Rattle.pg_wire.specs.Frames.{is_type, counted, frame_bytes, IsFrame, LengthIs, BadLengthIs, HasFault}
+use Rattle.pg_wire.specs.Frames.{counted, frame_bytes, IsFrame, LengthIs, BadLengthIs, HasFault}
 use Rattle.pg_wire.proofs.Heads.{message_bytes}
 
 -- ---- what follows a type byte

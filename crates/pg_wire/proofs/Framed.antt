@@ -1,9 +1,8 @@
 -- A frame that is given out.
-use Rattle.std.proofs.Common.{◌≡◌, ℕ, ◌+◌, ◌-◌, ◌%◌, ◌^◌, ◌≤◌, Bool, List, ◌++◌, length, take, drop, refl, sym, ap, subst, ◌∙◌, arith}
+use Rattle.std.proofs.Common.{◌≡◌, ℕ, ◌+◌, ◌-◌, ◌%◌, ◌^◌, Bool, List, ◌++◌, length, take, drop, refl, sym, ap, ◌∙◌, arith}
 use Rattle.std.specs.Prelude.{◌&&◌}
 use Rattle.std.proofs.lemmas.List.{take_rest, drop-drop, drop_at, length-append}
 use Rattle.pg_wire.specs.declared.frame.Side.{Side}
-use Rattle.pg_wire.specs.declared.frame.Frame.{Frame}
 use Rattle.pg_wire.specs.Frames.{frame_bytes, IsFrame, asks_encryption}
 use Rattle.pg_wire.specs.Streams.{Stream, GivesFrame}
 

@@ -1,5 +1,5 @@
 -- The head of a message, from that of what follows its type byte.
-use Rattle.std.proofs.Common.{◌≡◌, ℕ, zero, suc, ◌+◌, ◌≤◌, ◌<◌, ◌^◌, Bool, true, false, List, [], ◌∷◌, ◌++◌, length, get_or, take, drop, ◌-◌, refl, sym, ap, subst, ◌∙◌, arith}
+use Rattle.std.proofs.Common.{◌≡◌, ℕ, zero, suc, ◌≤◌, true, false, List, [], ◌∷◌, ◌++◌, length, get_or, take, drop, ◌-◌, refl, ap, subst, ◌∙◌, arith}
 use Rattle.std.proofs.lemmas.Bool.{ne_eqb}
 use Rattle.std.proofs.lemmas.List.{take_rest}
 use Rattle.pg_wire.specs.declared.frame.Side.{Side}
@@ -8,8 +8,8 @@ use Rattle.pg_wire.specs.declared.frame.FrameFault.{FrameFault}
 use Rattle.pg_wire.specs.declared.frame.FrameFault.TheVariants as faults
 use Rattle.pg_wire.specs.declared.head.Head.{Head}
 use Rattle.pg_wire.specs.declared.head.Head.TheVariants as heads
-use Rattle.pg_wire.specs.Frames.{is_type, counted, frame_bytes, IsFrame, HasFault, IsUnfinished}
-use Rattle.pg_wire.specs.Heads.{IsSize, IsCountedShort, IsCounted, IsHead}
+use Rattle.pg_wire.specs.Frames.{is_type, counted, frame_bytes, IsFrame, HasFault}
+use Rattle.pg_wire.specs.Heads.{IsCountedShort, IsCounted, IsHead}
 
 -- the type of a message isn't 0
 pub not_zero : (who : Side) → is_type who 0 ≡ true → ⊥

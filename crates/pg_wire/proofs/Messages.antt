@@ -1,5 +1,5 @@
 -- A message that is read is spelled so, and what is spelled so is read.
-use Rattle.std.proofs.Common.{◌≡◌, ℕ, zero, suc, ◌^◌, ◌<◌, Bool, true, false, cond, eqb, ◌||◌, List, [], ◌∷◌, ◌++◌, length, Option, Result, Ok, Err, refl, sym, ap, subst, ◌∙◌, append_assoc, arith, inl, inr, ◌⊎◌}
+use Rattle.std.proofs.Common.{◌≡◌, ℕ, suc, ◌^◌, ◌<◌, Bool, true, false, cond, eqb, ◌||◌, List, [], ◌∷◌, ◌++◌, length, Result, Ok, Err, refl, sym, ap, subst, ◌∙◌, append_assoc, arith, inl, inr}
 use Rattle.std.specs.List.{flat_map, AllByRecursion}
 use Rattle.std.specs.Int.{w32, to_be_bytes}
 use Rattle.std.proofs.lemmas.Bool.{eqb-true, or_cases}
@@ -9,7 +9,7 @@ use Rattle.pg_wire.specs.declared.front.Front.{Front}
 use Rattle.pg_wire.specs.declared.front.Front.TheVariants as fronts
 use Rattle.pg_wire.specs.declared.back.Back.{Back}
 use Rattle.pg_wire.specs.declared.back.Back.TheVariants as backs
-use Rattle.pg_wire.specs.Fronts.{IsText, str, IsPair, IsParam, pair_bytes, IsFront, front_kind, front_body}
+use Rattle.pg_wire.specs.Fronts.{str, IsParam, pair_bytes, IsFront, front_kind, front_body}
 use Rattle.pg_wire.specs.Backs.{IsField, field_bytes, IsCell, cell_bytes, IsErrorField, error_bytes, IsState, IsBack, back_kind, back_body}
 use Rattle.pg_wire.specs.Reading.{SpellsFront, SpellsBack}
 use Rattle.pg_wire.specs.Reads.{◌>>=◌, number_at, str_at, pair_at, field_at, cell_at, error_at, state_at, counted_at, listed_at, alone, mapped, auth_at, key_data_at, back_at, back_read, startup_at, front_at, front_read}

@@ -1,5 +1,5 @@
 -- No two messages have one spelling.
-use Rattle.std.proofs.Common.{◌≡◌, List, ℕ, Result, Ok, refl, sym, ap, ◌∙◌}
+use Rattle.std.proofs.Common.{◌≡◌, ℕ, sym, ap, ◌∙◌}
 use Rattle.pg_wire.specs.declared.front.Front.{Front}
 use Rattle.pg_wire.specs.declared.back.Back.{Back}
 use Rattle.pg_wire.specs.Fronts.{IsFront, front_kind, front_body}

@@ -1,5 +1,5 @@
 -- What a reader of messages returned.
-use Rattle.std.proofs.Common.{◌≡◌, ℕ, ◌+◌, ◌-◌, ◌≤◌, List, length, Result, Ok, Err, refl, sym, ap, ◌∙◌, arith}
+use Rattle.std.proofs.Common.{◌≡◌, ℕ, ◌-◌, List, length, Result, Ok, Err, sym, ap, ◌∙◌, arith}
 use Rattle.pg_wire.specs.declared.frame.ReadBody.{ReadBody}
 use Rattle.pg_wire.specs.declared.frame.ReadBody.TheVariants as read
 use Rattle.pg_wire.specs.declared.front.Front.{Front}

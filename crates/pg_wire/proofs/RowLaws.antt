@@ -1,14 +1,14 @@
 -- Columns, cells and fields of errors that are read are those that were written, and what was written is read again.
-use Rattle.std.proofs.Common.{◌≡◌, ℕ, zero, suc, ◌+◌, ◌-◌, ◌^◌, ◌<◌, ◌≤◌, Bool, true, false, cond, eqb, ltb, List, [], ◌∷◌, ◌++◌, length, Option, Some, None, Result, Ok, Err, refl, sym, ap, subst, ◌∙◌, append_assoc, arith, inl, inr, ◌⊎◌, ℤ}
+use Rattle.std.proofs.Common.{◌≡◌, ℕ, zero, suc, ◌-◌, ◌^◌, ◌<◌, Bool, true, false, cond, eqb, ltb, List, [], ◌∷◌, ◌++◌, length, Option, Some, None, Result, Ok, Err, refl, sym, ap, subst, ◌∙◌, append_assoc, arith, inl, inr, ◌⊎◌, ℤ}
 use Rattle.std.specs.Int.{w16, w32, to_be_bytes, cast_signed, cast_unsigned}
 use Rattle.std.specs.Int.RustNames.{FitsSigned}
-use Rattle.std.proofs.lemmas.Bool.{eqb-true, eqb-false, ne_eqb, ltb-true, ltb-false, lt-ltb}
+use Rattle.std.proofs.lemmas.Bool.{eqb-true, ne_eqb, ltb-true, lt-ltb}
 use Rattle.std.proofs.lemmas.Int.{to_z-of_z, of_z-to_z}
 use Rattle.std.proofs.Math.Facts.{sfits_to_z, Fits-of_z}
 use Rattle.pg_wire.specs.declared.back.Field.{Field}
 use Rattle.pg_wire.specs.declared.back.ErrorField.{ErrorField}
 use Rattle.pg_wire.specs.declared.front.Pair.{Pair}
-use Rattle.pg_wire.specs.Fronts.{IsText, str, IsPair, IsParam, pair_bytes}
+use Rattle.pg_wire.specs.Fronts.{IsText, str, IsParam, pair_bytes}
 use Rattle.pg_wire.specs.Backs.{IsField, field_bytes, IsCell, cell_bytes, IsErrorField, error_bytes}
 use Rattle.pg_wire.specs.Reads.{◌>>=◌, number_at, bytes_at, str_at, pair_at, format_at, field_at, cell_at, error_at}
 use Rattle.pg_wire.proofs.Shorter.{bind_ok, ok_is}

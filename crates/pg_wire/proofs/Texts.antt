@@ -1,12 +1,12 @@
 -- Texts and pairs that are read are those that were written, and what was written is read again.
-use Rattle.std.proofs.Common.{◌≡◌, ℕ, suc, ◌+◌, ◌<◌, Bool, true, false, eqb, List, [], ◌∷◌, ◌++◌, length, get_or, take, drop, Option, Some, Result, Ok, Err, refl, sym, ap, subst, ◌∙◌, append_assoc, arith}
+use Rattle.std.proofs.Common.{◌≡◌, ℕ, suc, ◌+◌, ◌<◌, Bool, false, eqb, List, [], ◌∷◌, ◌++◌, length, get_or, take, drop, Some, Ok, refl, sym, ap, subst, ◌∙◌, append_assoc, arith}
 use Rattle.std.specs.List.{position, position_or_len}
 use Rattle.std.proofs.lemmas.Bool.{eqb-true, eqb-false, ne_eqb, lt-ltb}
 use Rattle.std.proofs.lemmas.List.{take_at, drop_at, take-append-drop, drop_more, length-append, length-take, get_or-take}
 use Rattle.std.proofs.lemmas.List.Quantifiers.{position-Some}
 use Rattle.pg_wire.specs.declared.front.Pair.{Pair}
 use Rattle.pg_wire.specs.Fronts.{IsText, str, IsPair, pair_bytes}
-use Rattle.pg_wire.specs.Reads.{◌>>=◌, around, str_at, pair_at}
+use Rattle.pg_wire.specs.Reads.{◌>>=◌, str_at, pair_at}
 use Rattle.pg_wire.proofs.Shorter.{bind_ok, ok_is, str_ends}
 use Rattle.pg_wire.proofs.Numbers.{IsBytes, IsBytes-drop, Takes, Takes-then}
 

@@ -1,13 +1,13 @@
 -- What is unfinished is the front of a frame that is longer.
-use Rattle.std.proofs.Common.{◌≡◌, ℕ, zero, suc, ◌+◌, ◌-◌, ◌^◌, ◌≤◌, ◌<◌, Bool, true, false, List, [], ◌∷◌, ◌++◌, length, get_or, take, drop, replicate, refl, sym, ap, subst, ◌∙◌, append_assoc, arith, inl, inr}
+use Rattle.std.proofs.Common.{◌≡◌, ℕ, suc, ◌+◌, ◌-◌, ◌^◌, ◌≤◌, ◌<◌, Bool, true, false, List, [], ◌∷◌, ◌++◌, length, get_or, take, drop, replicate, refl, sym, ap, ◌∙◌, append_assoc, arith, inl, inr}
 use Rattle.std.specs.Int.{w32, from_be_bytes, to_be_bytes}
 use Rattle.std.proofs.lemmas.Bool.{cases_lt}
 use Rattle.std.proofs.lemmas.List.{take-append-drop, length-append, length-take, length-drop, length-replicate, get_or_append_left, get_or-append_right, get_or-replicate, get_or_past}
 use Rattle.pg_wire.specs.declared.frame.Side.{Side}
 use Rattle.pg_wire.specs.declared.frame.Side.TheVariants as side
 use Rattle.pg_wire.specs.declared.frame.FrameFault.TheVariants as faults
-use Rattle.pg_wire.specs.Frames.{is_type, counted, frame_bytes, IsFrame, LengthIs, IsUnfinished}
-use Rattle.pg_wire.specs.Prefixes.{IsKind, BeginsFrame}
+use Rattle.pg_wire.specs.Frames.{is_type, counted, LengthIs, IsUnfinished}
+use Rattle.pg_wire.specs.Prefixes.{BeginsFrame}
 use Rattle.pg_wire.proofs.Heads.{message_bytes}
 use Rattle.pg_wire.proofs.Numbers.{IsBytes, IsBytes-take, wide32}
 

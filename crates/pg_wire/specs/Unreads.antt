@@ -1,5 +1,5 @@
 -- What a reader returned, by what reading gives.
-use Rattle.std.specs.Prelude.{ℕ, ◌≡◌, ◌-◌, List, length, Result, Ok, Err}
+use Rattle.std.specs.Prelude.{ℕ, ◌≡◌, Result, Ok, Err}
 use Rattle.pg_wire.specs.declared.fields.Unread.{Unread}
 use Rattle.pg_wire.specs.declared.fields.Unread.TheVariants as unread
 

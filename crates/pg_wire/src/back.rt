@@ -1,6 +1,9 @@
 use crate::front::Pair;
 use acra_base::{Bytes, Sequence};
 
+/// The length that stands for NULL, -1 as a signed number.
+pub(crate) const NULL_LENGTH: u32 = 4_294_967_295;
+
 /// A column of a result, as it is described.
 #[derive(Debug, Drop)]
 pub struct Field {

@@ -2,13 +2,11 @@ ghost use Rattle.std.specs.Prelude.{◌≡◌, ℕ, List, Option};
 ghost use Rattle.pg_wire.specs.Reads.{format_at, field_at, cell_at, items_at, counted_at};
 ghost use Rattle.pg_wire.specs.Unreads.{Gives};
 
-use crate::back::Field;
+use crate::back::{Field, NULL_LENGTH};
 use crate::fields::{Unread, bytes_of, str_of, u16_of, u32_of};
 use acra_base::{Bytes, Sequence};
 use std::alloc::Global;
 
-/// The length that stands for NULL, -1 as a signed number.
-const NULL_LENGTH: u32 = 4_294_967_295;
 /// What no length reaches, as it isn't negative.
 const LENGTH_END: u32 = 2_147_483_648;
 

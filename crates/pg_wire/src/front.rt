@@ -1,5 +1,8 @@
 use acra_base::{Bytes, Sequence};
 
+/// The code of protocol 3.0.
+pub(crate) const PROTOCOL: u32 = 196_608;
+
 /// A name with its value.
 #[derive(Debug, Drop)]
 pub struct Pair {

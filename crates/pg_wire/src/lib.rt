@@ -26,3 +26,6 @@ pub use laws::{
 pub use reading_back::read_back;
 pub use reading_front::read_front;
 pub use write::{write_back, write_front};
+
+#[cfg(test)]
+mod tests;

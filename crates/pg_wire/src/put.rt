@@ -4,12 +4,9 @@ ghost use Rattle.std.specs.List.{flat_map, AllByRecursion};
 ghost use Rattle.pg_wire.specs.Fronts.{str, pair_bytes};
 ghost use Rattle.pg_wire.specs.Backs.{IsCell, field_bytes, cell_bytes, error_bytes};
 
-use crate::back::{ErrorField, Field};
+use crate::back::{ErrorField, Field, NULL_LENGTH};
 use crate::front::Pair;
 use acra_base::{Bytes, NoMemory};
-
-/// The length that stands for NULL, -1 as a signed number.
-const NULL_LENGTH: u32 = 4_294_967_295;
 
 /// Puts a text and its zero byte at the end.
 pub fn put_str(text: &Bytes, out: &mut Vec<u8>) -> Result<(), NoMemory>

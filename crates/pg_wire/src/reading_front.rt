@@ -6,12 +6,9 @@ ghost use Rattle.pg_wire.specs.declared.front.Front.{Front};
 
 use crate::fields::{Unread, str_of, u32_of};
 use crate::frame::{Frame, ReadBody};
-use crate::front::Front;
+use crate::front::{Front, PROTOCOL};
 use crate::lists::pairs_of;
 use std::alloc::Global;
-
-/// The code of protocol 3.0.
-const PROTOCOL: u32 = 196_608;
 
 /// Reads a startup packet.
 #[tactic(auto, unfolding(crate::specs::Reads::startup_at))]

@@ -4,13 +4,10 @@ ghost use Rattle.pg_wire.specs.Fronts.{IsFront, front_kind, front_body, front_fr
 ghost use Rattle.pg_wire.specs.Backs.{IsBack, back_kind, back_body, back_frame};
 
 use crate::back::Back;
-use crate::front::Front;
+use crate::front::{Front, PROTOCOL};
 use crate::put::{put_cells, put_error_fields, put_fields, put_pair, put_pairs, put_str, put_u32};
 use acra_base::NoMemory;
 use std::alloc::Global;
-
-/// The code of protocol 3.0.
-const PROTOCOL: u32 = 196_608;
 
 /// The type byte of a server's message.
 fn kind_of_back(message: &Back) -> u8

@@ -1,4 +1,3 @@
-use Rattle.std.proofs.Common.{◌≡◌, ◌++◌, ◌∷◌, []}
 use Rattle.std.proofs.lemmas.Result.{err_from_is_err_and}
 use Rattle.pg_wire.specs.Reads.{cell_at, items_at}
 use Rattle.pg_wire.proofs.Loops.{goes_on, fails, is_done}

@@ -1,4 +1,4 @@
-use Rattle.std.proofs.Common.{◌≡◌, sym, ◌∙◌}
+use Rattle.std.proofs.Common.{sym, ◌∙◌}
 use Rattle.pg_wire.proofs.Heads.{message_head_at}
 use Rattle.pg_wire.proofs.head.message_head.Goals as goal
 

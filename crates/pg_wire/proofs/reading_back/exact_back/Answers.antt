@@ -1,4 +1,4 @@
-use Rattle.std.proofs.Common.{◌≡◌, Ok, refl, arith}
+use Rattle.std.proofs.Common.{Ok, arith}
 use Rattle.pg_wire.proofs.Messages.{back_spelled}
 use Rattle.pg_wire.proofs.Readings.{back_only, back_offset, back_unspelled}
 use Rattle.pg_wire.proofs.Within.{back_left}

@@ -1,4 +1,4 @@
-use Rattle.std.proofs.Common.{◌≡◌, Ok, refl, arith}
+use Rattle.std.proofs.Common.{Ok, arith}
 use Rattle.pg_wire.proofs.Messages.{front_spelled}
 use Rattle.pg_wire.proofs.Readings.{front_only, front_offset, front_unspelled}
 use Rattle.pg_wire.proofs.Within.{front_left}

@@ -1,11 +1,9 @@
 -- Replies, by the function that gave them.
-use Rattle.std.proofs.Common.{◌≡◌, ◌≤◌, ℕ, ◌⊎◌, inl, inr, List, [], ◌∷◌, ◌++◌, length, Result, Ok, Err, codes, refl, sym, rules}
+use Rattle.std.proofs.Common.{◌≡◌, ◌≤◌, ℕ, ◌⊎◌, inl, inr, List, [], ◌∷◌, ◌++◌, length, Result, Ok, Err, codes, refl}
 use Rattle.std.specs.List.{flat_map}
 use Rattle.std.specs.Result.{OnOk, OnErr}
 use Rattle.pg_wire.specs.declared.front.Pair.{Pair}
-use Rattle.pg_wire.specs.declared.front.Front.{Front}
 use Rattle.pg_wire.specs.declared.front.Front.TheVariants as fronts
-use Rattle.pg_wire.specs.declared.back.Back.{Back}
 use Rattle.pg_wire.specs.Backs.{back_frame}
 use Rattle.sql_profile.specs.declared.statement.Statement.{Statement}
 use Rattle.sql_profile.specs.declared.fault.ParseFault.{ParseFault}
@@ -14,7 +12,7 @@ use Rattle.sql_profile.specs.declared.fault.ParseFault.TheVariants as faults
 use Rattle.sql_profile.specs.Grammar.{Spells}
 use Rattle.sql_profile.specs.Reading.{ReadsAs}
 use Rattle.table_machine.specs.declared.cell.Cell.{Cell}
-use Rattle.table_machine.specs.Backend.{Answers, Replies, executed, rows_executed, text_limit}
+use Rattle.table_machine.specs.Backend.{Answers, executed, rows_executed, text_limit}
 use Rattle.table_machine.specs.Replies.{messages_of, error_of, ready, startup_messages}
 use Rattle.table_machine.specs.Serving.{Replied, MayReply}
 use Rattle.table_machine.specs.Told.{AreShort}

@@ -1,12 +1,11 @@
 -- Messages appended one after another, and tags.
-use Rattle.std.proofs.Common.{◌≡◌, ℕ, ◌+◌, ◌<◌, ◌≤◌, ◌^◌, Bool, true, ltb, List, [], ◌∷◌, ◌++◌, length, codes, lit<, refl, map, append_assoc, append-nil, arith, rules, length-append}
-use Rattle.std.proofs.lemmas.Grind.{common_steps, flat_map-append}
+use Rattle.std.proofs.Common.{◌≡◌, ℕ, ◌<◌, ◌≤◌, ◌^◌, true, ltb, List, [], ◌∷◌, ◌++◌, length, codes, lit<, refl, append_assoc, append-nil, arith, length-append}
+use Rattle.std.proofs.lemmas.Grind.{flat_map-append}
 use Rattle.std.proofs.lemmas.Fmt.{length-decimal-le}
 use Rattle.std.specs.List.{flat_map, list_all}
 use Rattle.std.specs.Fmt.{decimal}
 use Rattle.pg_wire.specs.declared.back.Back.{Back}
 use Rattle.pg_wire.specs.declared.back.Back.TheVariants as backs
-use Rattle.pg_wire.specs.Fronts.{IsText}
 use Rattle.pg_wire.specs.Backs.{back_frame}
 use Rattle.table_machine.specs.Replies.{status}
 use Rattle.table_machine.specs.Told.{IsWritable}

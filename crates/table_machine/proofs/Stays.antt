@@ -1,6 +1,5 @@
 -- What holds of the stored cells still holds after a statement.
-use Rattle.std.proofs.Common.{◌≡◌, ℕ, ℤ, pos, ◌+◌, ◌*◌, ◌<◌, ◌≤◌, ◌^◌, ◌⊎◌, inl, inr, Bool, true, false, cond, List, [], ◌∷◌, ◌++◌, length, Option, Some, None, option_map, Result, Ok, Err, map, get_or, drop, refl, sym, ◌∙◌, ap, subst, arith, rules, eqb, length-append, length-drop, nat_eq, take}
-use Rattle.std.proofs.lemmas.Grind.{common_steps}
+use Rattle.std.proofs.Common.{◌≡◌, ℕ, ℤ, pos, ◌<◌, ◌≤◌, ◌^◌, Bool, true, false, cond, List, [], ◌∷◌, ◌++◌, length, Option, Some, None, option_map, Result, Ok, Err, drop, refl, arith, length-drop, nat_eq, take}
 use Rattle.std.proofs.lemmas.List.Elements.{All-cons, All-nil, All-push}
 use Rattle.std.specs.List.{All, AllByRecursion, list_any}
 use Rattle.std.specs.Result.{result_ok}
@@ -10,10 +9,9 @@ use Rattle.hex.specs.declared.error.FromHexError.{FromHexError}
 use Rattle.hex.proofs.HexLemmas.{decode_of-ok}
 use Rattle.sql_profile.specs.declared.statement.Items.TheVariants as select
 use Rattle.sql_profile.specs.declared.statement.Operand.{Operand}
-use Rattle.sql_profile.specs.declared.statement.Operand.TheVariants as operand
 use Rattle.sql_profile.specs.declared.statement.Statement.{Statement}
 use Rattle.sql_profile.specs.declared.statement.Statement.TheVariants as statement
-use Rattle.sql_profile.specs.Tokens.{Token, Lexes}
+use Rattle.sql_profile.specs.Tokens.{Token}
 use Rattle.sql_profile.specs.Grammar.{Spells, tokens_of, list_tokens, value_tokens, listed, in_parentheses}
 use Rattle.sql_profile.specs.Tree.{IsStatement, AreValues}
 use Rattle.table_machine.specs.declared.cell.Cell.{Cell}

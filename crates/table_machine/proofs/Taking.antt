@@ -1,18 +1,17 @@
 -- What a frame is read as stands first in the stream.
-use Rattle.std.proofs.Common.{◌≡◌, ℕ, ◌⊎◌, Bool, true, false, List, ◌++◌, Option, Some, None, Result, Ok, Err, refl, sym, ◌∙◌, ap, subst, rules, arith}
-use Rattle.pg_wire.specs.declared.frame.Side.{Side}
+use Rattle.std.proofs.Common.{◌≡◌, ℕ, Bool, true, false, List, ◌++◌, Result, Ok, Err, sym, ◌∙◌, arith}
 use Rattle.pg_wire.specs.declared.frame.Side.TheVariants as side
 use Rattle.pg_wire.specs.declared.frame.Frame.{Frame}
 use Rattle.pg_wire.specs.declared.frame.FrameFault.{FrameFault}
 use Rattle.pg_wire.specs.declared.front.Front.{Front}
 use Rattle.pg_wire.specs.declared.front.Front.TheVariants as fronts
 use Rattle.pg_wire.specs.Frames.{IsFrame, HasFault, IsUnfinished, frame_bytes}
-use Rattle.pg_wire.specs.Streams.{Stream, GivesFrame, behind}
+use Rattle.pg_wire.specs.Streams.{Stream, GivesFrame}
 use Rattle.pg_wire.specs.Fronts.{front_kind, front_body, front_frame}
 use Rattle.table_machine.specs.declared.requests.Next.{Next}
 use Rattle.table_machine.specs.declared.requests.Next.TheVariants as next
 use Rattle.table_machine.specs.Backend.{IsRequest}
-use Rattle.table_machine.specs.Serving.{IsServed, Begins, BeginsNone, ReadsRequest, TakesRequest}
+use Rattle.table_machine.specs.Serving.{IsServed, BeginsNone, ReadsRequest, TakesRequest}
 use Rattle.pg_wire.proofs.FrameLaws.{one_frame, fault_is_no_frame}
 
 pub placed : (opening : Bool) (limit : ℕ) (request : Front) → IsFrame side.Client limit opening (front_kind request) (front_body request) → IsServed request → IsRequest opening request

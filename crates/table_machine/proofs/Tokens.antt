@@ -1,7 +1,6 @@
 -- No string of a text is longer than the text.
-use Rattle.std.proofs.Common.{◌≡◌, ℕ, suc, ◌+◌, ◌≤◌, Bool, true, false, cond, eqb, List, [], ◌∷◌, ◌++◌, length, refl, arith, rules, length-append}
-use Rattle.std.proofs.lemmas.Grind.{common_steps}
-use Rattle.std.specs.List.{AllByRecursion, flat_map}
+use Rattle.std.proofs.Common.{ℕ, ◌+◌, ◌≤◌, Bool, true, false, cond, eqb, List, [], ◌∷◌, ◌++◌, length, arith, length-append}
+use Rattle.std.specs.List.{AllByRecursion}
 use Rattle.sql_profile.specs.Tokens.{Token, Lexes, doubled}
 
 -- a string token of at most n bytes, or another token

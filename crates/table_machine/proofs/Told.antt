@@ -1,35 +1,27 @@
 -- The outcome of a statement has messages that can be written, as far as the stored cells are short.
-use Rattle.std.proofs.Common.{◌≡◌, ℕ, ℤ, pos, negsuc, ◌+◌, ◌*◌, ◌<◌, ◌≤◌, ◌^◌, ◌⊎◌, inl, inr, Bool, true, false, cond, List, [], ◌∷◌, ◌++◌, length, Option, Some, None, option_map, map, get_or, refl, sym, subst, arith, rules, length-append, codes, lit<}
-use Rattle.std.proofs.lemmas.Grind.{common_steps}
+use Rattle.std.proofs.Common.{◌≡◌, ℕ, ◌+◌, ◌≤◌, ◌^◌, inl, inr, List, [], ◌∷◌, length, Option, Some, None, option_map, map, get_or, refl, arith, rules, length-append, codes, lit<}
 use Rattle.std.proofs.lemmas.List.{get_or_past}
-use Rattle.std.proofs.lemmas.List.Elements.{All-cons, All-nil, All-push, All-map}
+use Rattle.std.proofs.lemmas.List.Elements.{All-map}
 use Rattle.std.proofs.lemmas.Bool.{cases_lt}
 use Rattle.std.proofs.lemmas.Fmt.{length_signed_le}
-use Rattle.std.specs.Fmt.{signed_decimal}
-use Rattle.std.specs.List.{All, AllByRecursion}
-use lib.Signed.{mag}
+use Rattle.std.specs.List.{All}
 use Rattle.pg_wire.specs.declared.back.Field.{Field}
-use Rattle.pg_wire.specs.declared.back.ErrorField.{ErrorField}
-use Rattle.pg_wire.specs.declared.back.Back.{Back}
 use Rattle.pg_wire.specs.declared.back.Back.TheVariants as backs
 use Rattle.pg_wire.specs.Fronts.{IsText}
-use Rattle.pg_wire.specs.Backs.{IsBack, IsField, IsCell, IsErrorField, back_body, field_bytes, cell_bytes}
+use Rattle.pg_wire.specs.Backs.{IsField, IsCell, cell_bytes}
 use Rattle.sql_profile.specs.declared.statement.Item.{Item}
-use Rattle.sql_profile.specs.declared.statement.Items.{Items}
 use Rattle.sql_profile.specs.declared.statement.Items.TheVariants as select
-use Rattle.sql_profile.specs.declared.statement.Operand.{Operand}
-use Rattle.sql_profile.specs.declared.statement.Operand.TheVariants as operand
 use Rattle.sql_profile.specs.declared.statement.Statement.{Statement}
 use Rattle.sql_profile.specs.declared.statement.Statement.TheVariants as statement
-use Rattle.sql_profile.specs.Tree.{IsStatement, IsItem, AreItems, AreRows, AreValues, IsColumn, id, body}
+use Rattle.sql_profile.specs.Tree.{IsStatement, IsItem, AreItems, id, body}
 use Rattle.table_machine.specs.declared.cell.Cell.{Cell}
 use Rattle.table_machine.specs.declared.cell.Cell.TheVariants as cell
 use Rattle.table_machine.specs.declared.outcome.OutColumn.{OutColumn}
 use Rattle.table_machine.specs.declared.outcome.Outcome.TheVariants as outcome
 use Rattle.table_machine.specs.Machine.{Action, out_column, out_cell, column_number}
-use Rattle.table_machine.specs.Stored.{stored, spelled, stored_row, stored_action, bytea_of, bytea_text}
-use Rattle.table_machine.specs.Replies.{field_of, error_of, error_field}
-use Rattle.table_machine.specs.Backend.{text_limit, bad_value, executed, outcome_then, rows_executed, rows_then}
+use Rattle.table_machine.specs.Stored.{stored, spelled, stored_row}
+use Rattle.table_machine.specs.Replies.{field_of, error_of}
+use Rattle.table_machine.specs.Backend.{bad_value, executed, outcome_then}
 use Rattle.table_machine.specs.Told.{IsWritable, IsTold, IsShort, AreShort, IsSmall, AreSmall}
 use Rattle.table_machine.proofs.Texts.{IsText-from_test}
 use Rattle.table_machine.proofs.Lengths.{length-field_bytes, length-cell_bytes, length-bytea_text}

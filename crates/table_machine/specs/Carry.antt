@@ -1,5 +1,5 @@
 -- The laws of the machine: texts of bytea values are read back, and a map of cells carries what the machine does.
-use Rattle.std.specs.Prelude.{ℕ, ◌≡◌, ◌<◌, List, [], ◌∷◌, ◌++◌, map, slice_index_or, Option, Some}
+use Rattle.std.specs.Prelude.{ℕ, ◌≡◌, ◌<◌, List, map, slice_index_or, Some}
 use Rattle.std.specs.List.{All}
 use Rattle.sql_profile.specs.declared.statement.Item.{Item}
 use Rattle.table_machine.specs.Machine.{Cells, Action, column_number, out_cell, rows_after}

@@ -1,5 +1,5 @@
 -- The table machine, over any kind of cells: the tables of the backend and the plaintext tables are two instances.
-use Rattle.std.specs.Prelude.{ℕ, ◌+◌, List, [], ◌∷◌, ◌++◌, map, nat_eq, Bool, if◌then◌else◌, Option, unwrap_or, slice_index_or}
+use Rattle.std.specs.Prelude.{ℕ, ◌+◌, List, [], ◌∷◌, ◌++◌, map, nat_eq, if◌then◌else◌, Option, unwrap_or, slice_index_or}
 use Rattle.std.specs.Cmp.Lexicographic.{pointwise}
 use Rattle.acra_base.specs.declared.kind.ValueKind.{ValueKind}
 use Rattle.sql_profile.specs.declared.statement.Item.{Item}

@@ -3,13 +3,11 @@ use Rattle.std.specs.Prelude.{ℕ, ℤ, pos, negsuc, List, [], ◌∷◌, ◌++�
 use Rattle.std.specs.Fmt.{decimal}
 use Rattle.acra_base.specs.declared.kind.ValueKind.{ValueKind}
 use Rattle.acra_base.specs.declared.kind.ValueKind.TheVariants as kind
-use Rattle.pg_wire.specs.declared.front.Pair.{Pair}
 use Rattle.pg_wire.specs.declared.back.Field.{Field}
 use Rattle.pg_wire.specs.declared.back.ErrorField.{ErrorField}
 use Rattle.pg_wire.specs.declared.back.Back.{Back}
 use Rattle.pg_wire.specs.declared.back.Back.TheVariants as backs
 use Rattle.table_machine.specs.declared.outcome.OutColumn.{OutColumn}
-use Rattle.table_machine.specs.declared.outcome.LabFault.{LabFault}
 use Rattle.table_machine.specs.declared.outcome.Outcome.{Outcome}
 use Rattle.table_machine.specs.declared.outcome.Outcome.TheVariants as outcome
 

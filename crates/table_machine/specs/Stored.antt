@@ -1,5 +1,5 @@
 -- Cells as they are stored.
-use Rattle.std.specs.Prelude.{ℕ, ℤ, pos, nat_eq, ◌==◌, take, drop, Bool, if◌then◌else◌, List, [], ◌∷◌, ◌++◌, Option, Some, None, option_map, Result}
+use Rattle.std.specs.Prelude.{ℕ, nat_eq, ◌==◌, take, drop, if◌then◌else◌, List, [], ◌∷◌, Option, Some, None, option_map}
 use Rattle.std.specs.List.{list_any}
 use Rattle.std.specs.Cmp.Lexicographic.{pointwise}
 use Rattle.std.specs.Result.{result_ok}

@@ -1,5 +1,5 @@
 -- Outcomes whose messages can be written, and the stored cells that give such outcomes.
-use Rattle.std.specs.Prelude.{ℕ, ◌+◌, ◌^◌, ◌<◌, ◌≤◌, List, map, length}
+use Rattle.std.specs.Prelude.{◌+◌, ◌^◌, ◌<◌, ◌≤◌, List, map, length}
 use Rattle.std.specs.List.{All}
 use lib.Signed.{mag}
 use Rattle.pg_wire.specs.declared.back.Back.{Back}

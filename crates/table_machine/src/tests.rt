@@ -16,8 +16,8 @@ fn spelled_out(alloc: Global, outcome: &Outcome) -> Result<Vec<u8>, NoMemory> {
     let mut out = Vec::new(alloc);
     match outcome {
         Outcome::Rows { rows, .. } => {
-            for row in rows.as_slice() {
-                for cell in row.as_slice() {
+            'rows: for row in rows.as_slice() {
+                'cells: for cell in row.as_slice() {
                     match cell {
                         Some(text) => out.extend_from_slice(text.as_slice())?,
                         None => out.extend_from_slice(b"NULL")?,
@@ -56,7 +56,7 @@ fn executes_statements(rt: HostRuntime) -> Result<(), Fail> {
         ("SELECT body, id FROM notes", "\\x706c61696e,1,;\\x00ff,2,;"),
         ("SELECT id FROM notes", "1,;2,;"),
     ];
-    for (text, want) in cases {
+    'cases: for (text, want) in cases {
         let got = told(alloc, &mut tables, text)?;
         assert_eq!(rt; got.as_slice(), want.as_bytes());
     }
@@ -90,7 +90,7 @@ const REFUSED: &[u8] =
 
 /// How many of the requests that came are executed, up to 8, with their replies.
 fn executed(lab: &mut LabBackend, reply: &mut Vec<u8>) -> Result<u64, NoMemory> {
-    for count in 0..8 {
+    'requests: for count in 0..8 {
         if !lab.execute(reply)? {
             return Ok(count);
         }

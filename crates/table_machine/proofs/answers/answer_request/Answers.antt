@@ -1,4 +1,3 @@
-use Rattle.std.proofs.Common.{refl}
 use Rattle.std.proofs.lemmas.Result.{on_ok_weaker}
 use Rattle.table_machine.proofs.Answered.{startup_replied}
 use Rattle.table_machine.proofs.answers.answer_request.Goals as goal

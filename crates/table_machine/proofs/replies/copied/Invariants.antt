@@ -1,8 +1,4 @@
-use Rattle.std.proofs.Common.{◌≡◌, ◌++◌, map, take}
-use Rattle.std.specs.List.{flat_map}
-use Rattle.pg_wire.specs.declared.back.Back.TheVariants as backs
-use Rattle.pg_wire.specs.Backs.{back_frame}
-use Rattle.table_machine.specs.Replies.{field_of}
+use Rattle.std.proofs.Common.{◌≡◌, take}
 use Rattle.table_machine.proofs.replies.copied.Given as goal
 
 abbrev pub invariant-cells : goal.invariant-cells

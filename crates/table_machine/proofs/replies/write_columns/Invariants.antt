@@ -1,7 +1,4 @@
-use Rattle.std.proofs.Common.{◌≡◌, ◌++◌, map, take}
-use Rattle.std.specs.List.{flat_map}
-use Rattle.pg_wire.specs.declared.back.Back.TheVariants as backs
-use Rattle.pg_wire.specs.Backs.{back_frame}
+use Rattle.std.proofs.Common.{◌≡◌, map, take}
 use Rattle.table_machine.specs.Replies.{field_of}
 use Rattle.table_machine.proofs.replies.write_columns.Given as goal
 

@@ -1,4 +1,3 @@
-use Rattle.std.proofs.Common.{sym, ◌∙◌}
 use Rattle.table_machine.proofs.Appended.{tag-writable}
 use Rattle.table_machine.proofs.replies.write_tag.Goals as goal
 

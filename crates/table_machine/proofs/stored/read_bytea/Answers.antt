@@ -1,4 +1,4 @@
-use Rattle.std.proofs.Common.{rules, arith}
+use Rattle.std.proofs.Common.{arith}
 use Rattle.std.proofs.lemmas.Grind.{common_steps}
 use Rattle.table_machine.proofs.Texts.{has_byte}
 use Rattle.table_machine.proofs.stored.read_bytea.Goals as goal

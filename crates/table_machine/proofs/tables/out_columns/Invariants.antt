@@ -1,5 +1,5 @@
 use Rattle.std.proofs.Common.{◌≡◌, map, take}
-use Rattle.table_machine.specs.Machine.{out_cell, out_column}
+use Rattle.table_machine.specs.Machine.{out_column}
 use Rattle.table_machine.specs.Stored.{stored}
 use Rattle.table_machine.proofs.tables.out_columns.Given as goal
 

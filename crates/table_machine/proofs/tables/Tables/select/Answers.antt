@@ -1,4 +1,3 @@
-use Rattle.std.proofs.Common.{sym, ◌∙◌}
 use Rattle.table_machine.proofs.Told.{select-told}
 use Rattle.table_machine.proofs.tables.Tables.select.Goals as goal
 

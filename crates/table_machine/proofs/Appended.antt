@@ -7,8 +7,7 @@ use Rattle.std.specs.Fmt.{decimal}
 use Rattle.pg_wire.specs.declared.back.Back.{Back}
 use Rattle.pg_wire.specs.declared.back.Back.TheVariants as backs
 use Rattle.pg_wire.specs.Backs.{back_frame}
-use Rattle.table_machine.specs.Replies.{status}
-use Rattle.table_machine.specs.Told.{IsWritable}
+use Rattle.table_machine.specs.Replies.{IsWritable, status}
 use Rattle.table_machine.proofs.Texts.{IsText-tag, IsText-from_test}
 
 pub five_appended : (o0 o1 o2 o3 o4 o5 : List ℕ) (a b c d e : Back) → o1 ≡ o0 ++ back_frame a → o2 ≡ o1 ++ back_frame b → o3 ≡ o2 ++ back_frame c → o4 ≡ o3 ++ back_frame d → o5 ≡ o4 ++ back_frame e

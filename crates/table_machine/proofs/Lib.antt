@@ -4,6 +4,7 @@ pub mod Tokens
 pub mod Told
 pub mod Stays
 pub mod Appended
+pub mod Written
 pub mod Carried
 pub mod Taking
 pub mod Answered

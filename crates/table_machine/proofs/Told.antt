@@ -20,9 +20,9 @@ use Rattle.table_machine.specs.declared.outcome.OutColumn.{OutColumn}
 use Rattle.table_machine.specs.declared.outcome.Outcome.TheVariants as outcome
 use Rattle.table_machine.specs.Machine.{Action, out_column, out_cell, column_number}
 use Rattle.table_machine.specs.Stored.{stored, spelled, stored_row}
-use Rattle.table_machine.specs.Replies.{field_of, error_of}
+use Rattle.table_machine.specs.Replies.{IsWritable, field_of, error_of}
 use Rattle.table_machine.specs.Backend.{bad_value, executed, outcome_then}
-use Rattle.table_machine.specs.Told.{IsWritable, IsTold, IsShort, AreShort, IsSmall, AreSmall}
+use Rattle.table_machine.specs.Told.{IsTold, IsShort, AreShort, IsSmall, AreSmall}
 use Rattle.table_machine.proofs.Texts.{IsText-from_test}
 use Rattle.table_machine.proofs.Lengths.{length-field_bytes, length-cell_bytes, length-bytea_text}
 

@@ -1,6 +1,6 @@
 -- The lab's backend: it executes the requests of one session, one after the other.
 use Rattle.std.specs.Prelude.{ℕ, ◌≡◌, ◌^◌, ◌≤◌, ◌⊎◌, Bool, true, false, List, [], ◌∷◌, ◌++◌, length, codes, Option, Some, None, Result, Ok, Err}
-use Rattle.std.specs.List.{flat_map}
+use Rattle.std.specs.List.{flat_map, AllByRecursion}
 use Rattle.pg_wire.specs.declared.front.Front.{Front}
 use Rattle.pg_wire.specs.declared.front.Front.TheVariants as fronts
 use Rattle.pg_wire.specs.declared.back.Back.{Back}
@@ -17,7 +17,7 @@ use Rattle.table_machine.specs.declared.outcome.Outcome.{Outcome}
 use Rattle.table_machine.specs.declared.outcome.Outcome.TheVariants as outcome
 use Rattle.table_machine.specs.Machine.{Action, outcome_of, rows_after}
 use Rattle.table_machine.specs.Stored.{stored, stored_action}
-use Rattle.table_machine.specs.Replies.{messages_of, startup_messages, error_of, ready}
+use Rattle.table_machine.specs.Replies.{IsWritable, messages_of, startup_messages, error_of, ready}
 
 -- a string that is no bytea
 abbrev pub bad_value : LabFault
@@ -89,6 +89,7 @@ pub record Executes (lab after : Lab) (old new : List ℕ) : Type 0 where
   pub messages : List Back
   pub replied : Replies lab.session request lab.rows messages after.rows
   pub reply : new ≡ old ++ flat_map back_frame messages
+  pub writable : AllByRecursion IsWritable messages
   pub stream : after.stream ≡ behind lab.stream (front_kind request) (front_body request) rest
   pub session : after.session ≡ lab.session
   pub still : after.closed ≡ false

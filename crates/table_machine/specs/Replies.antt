@@ -1,5 +1,5 @@
 -- The messages that tell an outcome.
-use Rattle.std.specs.Prelude.{ℕ, ℤ, pos, negsuc, List, [], ◌∷◌, ◌++◌, map, length, codes}
+use Rattle.std.specs.Prelude.{ℕ, ℤ, pos, negsuc, ◌+◌, ◌^◌, ◌<◌, List, [], ◌∷◌, ◌++◌, map, length, codes}
 use Rattle.std.specs.Fmt.{decimal}
 use Rattle.acra_base.specs.declared.kind.ValueKind.{ValueKind}
 use Rattle.acra_base.specs.declared.kind.ValueKind.TheVariants as kind
@@ -7,9 +7,15 @@ use Rattle.pg_wire.specs.declared.back.Field.{Field}
 use Rattle.pg_wire.specs.declared.back.ErrorField.{ErrorField}
 use Rattle.pg_wire.specs.declared.back.Back.{Back}
 use Rattle.pg_wire.specs.declared.back.Back.TheVariants as backs
+use Rattle.pg_wire.specs.Backs.{IsBack, back_body}
 use Rattle.table_machine.specs.declared.outcome.OutColumn.{OutColumn}
 use Rattle.table_machine.specs.declared.outcome.Outcome.{Outcome}
 use Rattle.table_machine.specs.declared.outcome.Outcome.TheVariants as outcome
+
+-- a message that has a spelling, and is short enough to be written
+pub record IsWritable (message : Back) : Type 0 where
+  pub spelled : IsBack message
+  pub short : length (back_body message) + 4 < 2 ^ 30
 
 -- the OIDs of text, bytea, int4 and int8
 abbrev pub oid_of : ValueKind → ℕ

@@ -1,6 +1,6 @@
 -- The steps of the backend: taking a request from the stream, and replying to it.
 use Rattle.std.specs.Prelude.{ℕ, ◌≡◌, ◌⊎◌, List, ◌++◌, Result, Ok, Err}
-use Rattle.std.specs.List.{flat_map}
+use Rattle.std.specs.List.{flat_map, AllByRecursion}
 use Rattle.pg_wire.specs.declared.front.Front.{Front}
 use Rattle.pg_wire.specs.declared.front.Front.TheVariants as fronts
 use Rattle.pg_wire.specs.declared.back.Back.{Back}
@@ -13,6 +13,7 @@ use Rattle.pg_wire.specs.Reading.{SpellsFront}
 use Rattle.table_machine.specs.declared.cell.Cell.{Cell}
 use Rattle.table_machine.specs.declared.requests.Next.{Next}
 use Rattle.table_machine.specs.declared.requests.Next.TheVariants as next
+use Rattle.table_machine.specs.Replies.{IsWritable}
 use Rattle.table_machine.specs.Backend.{IsRequest, Replies}
 
 -- a message that gets a reply
@@ -50,6 +51,7 @@ pub record Replied (session : ℕ) (request : Front) (rows after : List (List Ce
   pub messages : List Back
   pub replies : Replies session request rows messages after
   pub appended : new ≡ old ++ flat_map back_frame messages
+  pub writable : AllByRecursion IsWritable messages
 
 -- the rows stayed, or are those after the request
 abbrev pub MayReply : ℕ → Front → List (List Cell) → List (List Cell) → Type 0

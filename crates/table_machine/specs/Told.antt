@@ -1,21 +1,14 @@
 -- Outcomes whose messages can be written, and the stored cells that give such outcomes.
-use Rattle.std.specs.Prelude.{◌+◌, ◌^◌, ◌<◌, ◌≤◌, List, map, length}
+use Rattle.std.specs.Prelude.{◌^◌, ◌<◌, ◌≤◌, List, map, length}
 use Rattle.std.specs.List.{All}
 use lib.Signed.{mag}
-use Rattle.pg_wire.specs.declared.back.Back.{Back}
 use Rattle.pg_wire.specs.declared.back.Back.TheVariants as backs
-use Rattle.pg_wire.specs.Backs.{IsBack, back_body}
 use Rattle.table_machine.specs.declared.cell.Cell.{Cell}
 use Rattle.table_machine.specs.declared.cell.Cell.TheVariants as cell
 use Rattle.table_machine.specs.declared.outcome.Outcome.{Outcome}
 use Rattle.table_machine.specs.declared.outcome.Outcome.TheVariants as outcome
-use Rattle.table_machine.specs.Replies.{field_of, error_of}
+use Rattle.table_machine.specs.Replies.{IsWritable, field_of, error_of}
 use Rattle.table_machine.specs.Backend.{text_limit}
-
--- a message that has a spelling, and is short enough to be written
-pub record IsWritable (message : Back) : Type 0 where
-  pub spelled : IsBack message
-  pub short : length (back_body message) + 4 < 2 ^ 30
 
 -- the messages of the outcome can be written
 abbrev pub IsTold : Outcome → Type 0

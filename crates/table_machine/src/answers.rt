@@ -1,10 +1,10 @@
 ghost use Rattle.std.specs.Prelude.{◌≡◌, ◌≤◌, ◌⊎◌, ◌++◌, ◌∷◌, [], codes, length, OnErr, OnOk};
-ghost use Rattle.std.specs.List.{flat_map};
+ghost use Rattle.std.specs.List.{AllByRecursion, flat_map};
 ghost use Rattle.pg_wire.specs.declared.front.Front.TheVariants as fronts;
 ghost use Rattle.pg_wire.specs.Backs.{back_frame};
 ghost use Rattle.sql_profile.specs.Tree.{IsStatement};
 ghost use Rattle.table_machine.specs.Backend.{executed, rows_executed};
-ghost use Rattle.table_machine.specs.Replies.{error_of, messages_of, ready};
+ghost use Rattle.table_machine.specs.Replies.{IsWritable, error_of, messages_of, ready};
 ghost use Rattle.table_machine.specs.Serving.{IsServed, MayReply, Replied};
 ghost use Rattle.table_machine.specs.Told.{AreShort};
 
@@ -68,6 +68,7 @@ fn answer_statement(
     requires statement { IsStatement statement.now }
     requires short { AreShort tables.old }
     ensures reply { OnOk result (out.new.items ≡ out.old.items ++ flat_map back_frame (messages_of (executed statement.now tables.old) ++ ready ∷ [])) }
+    ensures writable { OnOk result (AllByRecursion IsWritable (messages_of (executed statement.now tables.old) ++ ready ∷ [])) }
     ensures ok { OnOk result (tables.new ≡ rows_executed statement.now tables.old) }
     ensures err { OnErr result ((tables.new ≡ tables.old) ⊎ (tables.new ≡ rows_executed statement.now tables.old)) }
 {

@@ -2,11 +2,11 @@
 
 ghost use Rattle.std.specs.Prelude.{◌≡◌, ◌≤◌, ◌++◌, ◌∷◌, [], IfOk, OnOk, length, map, nat_lt, true};
 ghost use Rattle.std.specs.Fmt.{decimal};
-ghost use Rattle.std.specs.List.{All, flat_map, list_all};
+ghost use Rattle.std.specs.List.{All, AllByRecursion, flat_map, list_all};
 ghost use Rattle.pg_wire.specs.declared.back.Back.TheVariants as backs;
 ghost use Rattle.pg_wire.specs.Backs.{back_frame};
-ghost use Rattle.table_machine.specs.Replies.{error_field, error_of, field_of, messages_of, oid_of, ready, size_of, startup_messages, status};
-ghost use Rattle.table_machine.specs.Told.{IsTold, IsWritable};
+ghost use Rattle.table_machine.specs.Replies.{IsWritable, error_field, error_of, field_of, messages_of, oid_of, ready, size_of, startup_messages, status};
+ghost use Rattle.table_machine.specs.Told.{IsTold};
 
 use crate::outcome::{OutColumn, Outcome};
 use acra_base::{Bytes, NoMemory, Sequence, ValueKind};
@@ -16,7 +16,8 @@ use std::alloc::Global;
 /// Appends the messages that tell an outcome.
 pub fn write_outcome(alloc: Global, outcome: &Outcome, out: &mut Vec<u8>) -> Result<(), NoMemory>
     requires { IsTold outcome.now }
-    ensures { OnOk result (out.new.items ≡ out.old.items ++ flat_map back_frame (messages_of outcome.now)) }
+    ensures appended { OnOk result (out.new.items ≡ out.old.items ++ flat_map back_frame (messages_of outcome.now)) }
+    ensures writable { OnOk result (AllByRecursion IsWritable (messages_of outcome.now)) }
 {
     match outcome {
         Outcome::Rows { columns, rows } => {
@@ -107,7 +108,8 @@ fn write_status(alloc: Global, name: &[u8], value: &[u8], out: &mut Vec<u8>) -> 
 fn write_tag(alloc: Global, word: &str, count: u64, out: &mut Vec<u8>) -> Result<(), NoMemory>
     requires text { list_all (nat_lt 0) word.now ≡ true }
     requires short { length word.now ≤ 16 }
-    ensures { OnOk result (out.new.items ≡ out.old.items ++ back_frame (backs.Complete (word.now ++ decimal count))) }
+    ensures appended { OnOk result (out.new.items ≡ out.old.items ++ back_frame (backs.Complete (word.now ++ decimal count))) }
+    ensures writable { OnOk result (IsWritable (backs.Complete (word.now ++ decimal count))) }
 {
     let tag = format!(in alloc; "{word}{count}")?;
     write_back(&Back::Complete(Bytes::from_vec(tag.into_bytes())), out)

@@ -1,5 +1,13 @@
+use Rattle.std.proofs.Common.{◌++◌, refl}
+use Rattle.std.specs.Fmt.{decimal}
 use Rattle.table_machine.proofs.Appended.{tag-writable}
+use Rattle.table_machine.proofs.Written.{on_ok_always}
 use Rattle.table_machine.proofs.replies.write_tag.Goals as goal
+
+pub returns-clause-writable : goal.returns-clause-writable
+returns-clause-writable c =
+    let w = tag-writable (c.args.word.now ++ decimal c.args.count) c.args.word.now c.args.count refl c.requires.text c.requires.short c.ranges.count.fits in
+    on_ok_always c.write_back.result w
 
 pub write_back-requires : goal.write_back-requires
 write_back-requires c =

@@ -30,3 +30,6 @@ pub use sequence::Sequence;
 pub use stream::{ReaderSource, WriterSink};
 pub use trial::TrialAead;
 pub use whole::{WriteFault, write_whole};
+
+#[cfg(test)]
+mod tests;

@@ -140,6 +140,7 @@ impl MemLink {
 
 impl Source for MemLink {
     ghost use Rattle.acra_base.specs.Wires.{wire_left, wire_held};
+    ghost use Rattle.acra_base.specs.Memory.{mem_left, mem_held, mem_failing, mem_calls};
 
     ghost left = { λ s. wire_left s.wire };
 
@@ -149,7 +150,17 @@ impl Source for MemLink {
 
     ghost write_faults_beside = { λ s. s.write_faults };
 
-    fn read(&mut self, buf: &mut [u8]) -> Result<usize, Failed> {
+    fn read(&mut self, buf: &mut [u8]) -> Result<usize, Failed>
+        requires { 0 < length buf.old }
+        ensures bound { IfOk result (λ n. n ≤ length buf.new) }
+        ensures bytes { ReadGives (mem_left self.old) (mem_left self.new) result buf.new }
+        ensures cause { HasCause (⟦<MemLink as Source>⟧.read_faults self.old) (⟦<MemLink as Source>⟧.read_faults self.new) result }
+        ensures beside { Grew (mem_held self.old) (mem_held self.new) [] }
+        ensures other { ⟦<MemLink as Source>⟧.write_faults_beside self.old ≤ ⟦<MemLink as Source>⟧.write_faults_beside self.new }
+        ensures exactly { IsErr result ↔ Contains (mem_failing self.old) (mem_calls self.old) }
+        ensures counted { mem_calls self.new ≡ min (mem_calls self.old + 1) (2 ^ 64 - 1) }
+        ensures listed { mem_failing self.new ≡ mem_failing self.old }
+    {
         if self.fails() {
             self.read_faults = self.read_faults.saturating_add(1);
             return Err(Failed);
@@ -160,6 +171,7 @@ impl Source for MemLink {
 
 impl Sink for MemLink {
     ghost use Rattle.acra_base.specs.Wires.{wire_left, wire_held};
+    ghost use Rattle.acra_base.specs.Memory.{mem_left, mem_held, mem_failing, mem_calls};
 
     ghost held = { λ s. wire_held s.wire };
 
@@ -169,7 +181,16 @@ impl Sink for MemLink {
 
     ghost read_faults_beside = { λ s. s.read_faults };
 
-    fn write(&mut self, bytes: &[u8]) -> Result<usize, Failed> {
+    fn write(&mut self, bytes: &[u8]) -> Result<usize, Failed>
+        ensures bound { TakesSome result (length bytes.now) }
+        ensures bytes { WriteTakes (mem_held self.old) (mem_held self.new) result bytes.now }
+        ensures cause { HasCause (⟦<MemLink as Sink>⟧.write_faults self.old) (⟦<MemLink as Sink>⟧.write_faults self.new) result }
+        ensures beside { Shrank (mem_left self.old) (mem_left self.new) [] }
+        ensures other { ⟦<MemLink as Sink>⟧.read_faults_beside self.old ≤ ⟦<MemLink as Sink>⟧.read_faults_beside self.new }
+        ensures exactly { IsErr result ↔ Contains (mem_failing self.old) (mem_calls self.old) }
+        ensures counted { mem_calls self.new ≡ min (mem_calls self.old + 1) (2 ^ 64 - 1) }
+        ensures listed { mem_failing self.new ≡ mem_failing self.old }
+    {
         if self.fails() {
             self.write_faults = self.write_faults.saturating_add(1);
             return Err(Failed);

@@ -66,3 +66,63 @@ impl<W: Write + Drop> Sink for WriterSink<W> {
         }
     }
 }
+
+#[cfg(test)]
+mod tests {
+    use super::*;
+    use crate::whole::{WriteFault, write_whole};
+    use std::io;
+    use std::test::Fail;
+
+    /// Takes two bytes at a call, until it is full.
+    #[derive(Drop)]
+    struct Narrow {
+        taken: Vec<u8>,
+        room: usize,
+    }
+
+    impl Write for Narrow {
+        fn write(&mut self, buf: &[u8]) -> io::Result<usize> {
+            let count = buf.len().min(self.room).min(2);
+            self.taken.extend_from_slice(&buf[..count])?;
+            self.room -= count;
+            Ok(count)
+        }
+
+        fn flush(&mut self) -> io::Result<()> {
+            Ok(())
+        }
+    }
+
+    #[test]
+    fn reads_to_the_end(rt: HostRuntime) {
+        let mut source = ReaderSource::new(b"abc".as_slice());
+        let mut buf = [0; 2];
+        for (count, bytes) in [(2, b"ab"), (1, b"cb"), (0, b"cb")] {
+            assert_eq!(rt; source.read(&mut buf), Ok(count));
+            assert_eq!(rt; &buf, bytes);
+        }
+        assert_eq!(rt; source.faults, 0);
+    }
+
+    #[test]
+    fn writes_until_it_is_full(rt: HostRuntime) -> Result<(), Fail> {
+        let cases: [(usize, _, &[u8], u64); 4] = [
+            (9, Ok(()), b"abcde", 0),
+            (5, Ok(()), b"abcde", 0),
+            (3, Err(WriteFault { done: 3 }), b"abc", 1),
+            (0, Err(WriteFault { done: 0 }), b"", 1),
+        ];
+        for (room, answer, taken, faults) in cases {
+            let inner = Narrow {
+                taken: Vec::new(rt.alloc()),
+                room,
+            };
+            let mut sink = WriterSink::new(inner);
+            assert_eq!(rt; write_whole(&mut sink, b"abcde"), answer, "room {room}");
+            assert_eq!(rt; sink.inner.taken.as_slice(), taken);
+            assert_eq!(rt; sink.faults, faults);
+        }
+        Ok(())
+    }
+}

@@ -1,0 +1,133 @@
+use super::*;
+use std::test::Fail;
+
+// The key stream of ChaCha20 (20 rounds) for the key 1, 0, 0, .. and a nonce and counter of 0, as
+// OpenSSL gives it.
+const STREAM: [u8; 64] = [
+    0xc5, 0xd3, 0x0a, 0x7c, 0xe1, 0xec, 0x11, 0x93, 0x78, 0xc8, 0x4f, 0x48, 0x7d, 0x77, 0x5a, 0x85,
+    0x42, 0xf1, 0x3e, 0xce, 0x23, 0x8a, 0x94, 0x55, 0xe8, 0x22, 0x9e, 0x88, 0x8d, 0xe8, 0x5b, 0xbd,
+    0x29, 0xeb, 0x63, 0xd0, 0xa1, 0x7a, 0x5b, 0x99, 0x9b, 0x52, 0xda, 0x22, 0xbe, 0x40, 0x23, 0xeb,
+    0x07, 0x62, 0x0a, 0x54, 0xf6, 0xfa, 0x6a, 0xd8, 0x73, 0x7b, 0x71, 0xeb, 0x04, 0x64, 0xda, 0xc0,
+];
+
+#[test]
+fn seeded_bytes(rt: HostRuntime) {
+    let mut bytes = [0; 64];
+    assert_eq!(rt; SureRandom::new(1).draw(&mut bytes), Ok(()));
+    assert_eq!(rt; bytes.as_slice(), STREAM.as_slice());
+
+    // A draw drops what it leaves of its last word of four bytes.
+    let mut random = SureRandom::new(1);
+    let mut five = [0; 5];
+    let mut eight = [0; 8];
+    random.fill(&mut five);
+    random.fill(&mut eight);
+    assert_eq!(rt; five.as_slice(), &STREAM[..5]);
+    assert_eq!(rt; eight.as_slice(), &STREAM[8..16]);
+}
+
+#[test]
+fn client_names(rt: HostRuntime) {
+    let long = [b'a'; 65];
+    let cases: [(&[u8], Option<BadClientId>); 9] = [
+        (b"a", None),
+        (b"client_07", None),
+        (b"_`{", Some(BadClientId::Byte { place: 1 })),
+        (&long[..64], None),
+        (&long, Some(BadClientId::Length)),
+        (b"", Some(BadClientId::Length)),
+        (b"A", Some(BadClientId::Byte { place: 0 })),
+        (b"ab.c.", Some(BadClientId::Byte { place: 2 })),
+        (b"a/:", Some(BadClientId::Byte { place: 1 })),
+    ];
+    for (text, fault) in cases {
+        match ClientId::read(text) {
+            Ok(client) => {
+                assert_eq!(rt; fault, None, "at {text:?}");
+                assert_eq!(rt; client.text(), text);
+            }
+            Err(why) => assert_eq!(rt; Some(why), fault, "at {text:?}"),
+        }
+    }
+}
+
+#[test]
+fn listed_calls_fail(rt: HostRuntime) -> Result<(), Fail> {
+    let alloc = rt.alloc();
+    let cases: [(u64, _, _, _, &[u8]); 4] = [
+        (0, Err(Failed), Ok(2), Ok(2), b"xyz"),
+        (1, Ok(2), Err(Failed), Ok(2), b"xyz"),
+        (2, Ok(2), Ok(1), Err(Failed), b"z"),
+        (3, Ok(2), Ok(1), Ok(2), b"xy"),
+    ];
+    for (failing, first, second, third, taken) in cases {
+        let input = Vec::from_slice(alloc, b"abc")?;
+        let mut link = MemLink::new(alloc, input, vec![in alloc; failing]?);
+        let mut buf = [0; 2];
+        assert_eq!(rt; link.read(&mut buf), first, "read 0, where {failing} fails");
+        assert_eq!(rt;
+            link.read(&mut buf),
+            second,
+            "read 1, where {failing} fails"
+        );
+        assert_eq!(rt; link.write(b"xy"), third, "write 0, where {failing} fails");
+        let last = write_whole(&mut link, b"z").err();
+        let fault = (failing == 3).then_some(WriteFault { done: 0 });
+        assert_eq!(rt; last, fault, "write 1, where {failing} fails");
+        assert!(rt; link.whole());
+        assert_eq!(rt; link.taken(), taken, "where {failing} fails");
+    }
+    Ok(())
+}
+
+#[test]
+fn sure_link(rt: HostRuntime) -> Result<(), Fail> {
+    let alloc = rt.alloc();
+    let mut link = SureLink::new(alloc, Vec::from_slice(alloc, b"abc")?);
+    let mut buf = [0; 2];
+    for (count, bytes) in [(2, b"ab"), (1, b"cb"), (0, b"cb")] {
+        assert_eq!(rt; link.read(&mut buf), Ok(count));
+        assert_eq!(rt; &buf, bytes);
+    }
+    assert_eq!(rt; write_whole(&mut link, b"xyz"), Ok(()));
+    assert!(rt; link.whole());
+    assert_eq!(rt; link.taken(), b"xyz".as_slice());
+    Ok(())
+}
+
+#[test]
+fn trial_cipher(rt: HostRuntime) -> Result<(), Fail> {
+    let alloc = rt.alloc();
+    let (key, nonce) = ([0x0f; 32], [0x30; 12]);
+    let again = sealed_again(alloc, &TrialAead, &key, &nonce, b"value")?.ok_or("no value")?;
+    assert_eq!(rt; again.as_slice(), b"value".as_slice());
+
+    // Each byte xored with hexadecimal 3f, and then 16 times `T`.
+    let mut seal = Vec::new(alloc);
+    TrialAead.seal(alloc, &key, &nonce, b"x", &[0, 1, 0x3f], &mut seal)?;
+    assert_eq!(rt; seal.as_slice(), b"\x3f\x3e\0TTTTTTTTTTTTTTTT".as_slice());
+
+    let mut back = Vec::new(alloc);
+    seal[18] ^= 1;
+    assert!(rt; !TrialAead.unseal(alloc, &key, &nonce, b"x", &seal, &mut back)?);
+    assert!(rt; back.is_empty());
+    Ok(())
+}
+
+#[test]
+fn lists(rt: HostRuntime) -> Result<(), Fail> {
+    let alloc = rt.alloc();
+    let mut bytes = Bytes::copied(alloc, b"ab")?;
+    bytes.push(b'c')?;
+    bytes.extend(b"de")?;
+    assert_eq!(rt; bytes.len(), 5);
+    assert_eq!(rt; bytes, Bytes::from_vec(Vec::from_slice(alloc, b"abcde")?));
+    assert_ne!(rt; bytes, Bytes::new(alloc));
+
+    let mut names = Sequence::new(alloc);
+    assert!(rt; names.is_empty());
+    names.push(Name::new(Bytes::copied(alloc, b"notes")?))?;
+    assert_eq!(rt; names.len(), 1);
+    assert_eq!(rt; names.as_slice()[0].as_slice(), b"notes".as_slice());
+    Ok(())
+}

@@ -1,5 +1,6 @@
 -- The moves of a session.
-use Rattle.std.proofs.Common.{◌≡◌, ◌≢◌, ℕ, ◌+◌, ◌%◌, ◌^◌, ◌≤◌, ◌<◌, ◌⊎◌, inl, inr, ◌&&◌, Bool, true, false, List, [], ◌∷◌, ◌++◌, length, Option, Some, None, Result, Ok, Err, refl, sym, ap, subst, ◌∙◌, append_assoc, arith}
+use Rattle.std.proofs.Common.{◌≡◌, ◌≢◌, ℕ, ◌+◌, ◌%◌, ◌^◌, ◌≤◌, ◌<◌, ◌⊎◌, inl, inr, ◌&&◌, Bool, true, false, ◌==◌, List, [], ◌∷◌, ◌++◌, length, Option, Some, None, Result, Ok, Err, refl, sym, ap, subst, ◌∙◌, append_assoc, arith}
+use Rattle.std.specs.Prelude.{IsErrOf}
 use Rattle.std.specs.List.{flat_map}
 use Rattle.std.proofs.lemmas.List.{append-nil, length-append}
 use Rattle.rand_chacha.specs.ChaCha.{ChaCha}
@@ -17,8 +18,11 @@ use Rattle.plain_tables.specs.Requests.{Request, Phase, phase_after, phase_after
 use Rattle.plain_tables.specs.Standing.{StandFor}
 use Rattle.lab_core.specs.Cells.{Keys, IsStored}
 use Rattle.lab_core.specs.Runs.{State, started, state_after, state_after_all, answer, answers}
-use Rattle.lab_core.specs.Session.{PieceRead, PieceTaken, SentFront, is_opening, Rests, SoFar, Ends, may_begin, MayBegin, Ran}
-use Rattle.lab_core.specs.Answering.{request_of, phase_of, Takes, Answered, Broken}
+use Rattle.lab_core.specs.Session.{PieceRead, PieceTaken, SentFront, is_opening, Rests, SoFar, Ends, status_of, may_begin, MayBegin, Ran}
+use Rattle.lab_core.specs.Answering.{request_of, phase_of, Takes, NextGives, Answered, Broken}
+use Rattle.lab_core.specs.declared.said.Next.{Next}
+use Rattle.lab_core.specs.declared.stop.Stop.{Stop}
+use Rattle.lab_core.specs.declared.stop.Stop.TheVariants as stops
 use Rattle.lab_core.specs.declared.said.Said.{Said}
 use Rattle.lab_core.specs.declared.said.Said.TheVariants as said
 use Rattle.lab_core.specs.declared.status.Status.{Status}
@@ -89,6 +93,55 @@ opening_not_over e = subst (λ (p : Phase). elim p as (λ _. Type 0) [ Phase.Ope
 
 small_sum : (n : ℕ) → n ≤ 2 ^ 48 → n % 2 ^ 64 ≡ n
 small_sum n h = omega arith
+
+pub length_zero : (xs : List ℕ) → length xs ≡ 0 → xs ≡ []
+length_zero [] e = refl
+length_zero (x ∷ xs) e = absurd (omega (arith, e))
+
+pub none_left : (xs : List ℕ) → true ≡ (length xs == 0) → xs ≡ []
+none_left [] e = refl
+none_left (x ∷ xs) e = let t : true ≡ false = e in absurd cc
+
+pub some_left : (xs : List ℕ) → false ≡ (length xs == 0) → xs ≢ []
+some_left [] e none = let t : false ≡ true = e in absurd cc
+some_left (x ∷ xs) e none = absurd (omega (arith, ap length none))
+
+empty_left : (xs ys : List ℕ) → xs ++ ys ≡ [] → xs ≡ []
+empty_left [] ys e = refl
+empty_left (x ∷ xs) ys e = absurd (omega (arith, ap length e))
+
+nothing_more : (left : Option (List ℕ)) (more : List ℕ) → IsAtEnd left → left ≡ Some more → more ≡ []
+nothing_more left more ended told = subst IsAtEnd told ended
+
+-- ---- what the code's calls answer
+
+fed_nothing : (s : Stream) → fed s [] ≡ s
+fed_nothing s = ap (λ (xs : List ℕ). record { who = s.who; limit = s.limit; opening = s.opening; offset = s.offset; left = xs }) (append-nil s.left)
+
+pub next_is : (E : Type 0) (s t : Stream) (found n : Next) → found ≡ n → NextGives {E = E} s (Ok found) t → NextGives {E = E} s (Ok n) t
+next_is E s t found n e h = subst (λ (x : Next). NextGives {E = E} s (Ok x) t) e h
+
+pub piece_of : (left left' : Option (List ℕ)) (s t stream' : Stream) (n room : ℕ) → t ≡ s → PieceRead left left' t stream' n room → PieceRead left left' s stream' n room
+piece_of left left' s t stream' n room e p = subst (λ (u : Stream). PieceRead left left' u stream' n room) e p
+
+pub may_stop : (stop : Stop) → (stop ≡ stops.ReadFault → ⊥) → may_begin (status_of stop) ≡ true
+may_stop stops.NoMemory h = refl
+may_stop stops.WriteFault h = refl
+may_stop stops.ReadFault h = absurd (h refl)
+
+pub not_read : (stop : Stop) → (IsErrOf {T = Unit {0}} (Err stop) stops.ReadFault → ⊥) → stop ≡ stops.ReadFault → ⊥
+not_read stop h e = h (ap (λ (x : Stop). Err x) e)
+
+-- where nothing was read, what begins here is as before
+pub nothing_read : (left left' : Option (List ℕ)) (s t : Stream) (n room : ℕ) → n ≡ 0 → PieceRead left left' s t n room → NoRequest (phase_of s.opening) s.left → NoRequest (phase_of t.opening) t.left
+nothing_read left left' s t n room e p none =
+    let same : t ≡ s = p.behind ∙ ap (λ (xs : List ℕ). fed s xs) (length_zero p.piece (p.count ∙ e)) ∙ fed_nothing s in
+    subst (λ (u : Stream). NoRequest (phase_of u.opening) u.left) (sym same) none
+
+pub ends_stopped : (stop : Stop) (left : Option (List ℕ)) (rs : List Request) (rest : List ℕ) → Ends (status_of stop) left rs rest
+ends_stopped stops.NoMemory left rs rest = tt
+ends_stopped stops.WriteFault left rs rest = tt
+ends_stopped stops.ReadFault left rs rest = tt
 
 -- ---- moves
 
@@ -195,6 +248,36 @@ module _ (keys : Keys) (g0 : ChaCha) (left0 held0 left held : Option (List ℕ))
         stand = inl so.rests.stand;
         why = why;
       }
+
+  phase_here : phase_of stream.opening ≡ phase_after_all Phase.Opening rs
+  phase_here = ap phase_of so.opening ∙ phase_is (phase_after_all Phase.Opening rs) so.serving
+
+  -- no request can begin here
+  pub bad_here : (offset : ℕ) → offset ≡ stream.offset → stream.left ≢ [] → ((more : List ℕ) → NoRequest (phase_of stream.opening) (stream.left ++ more)) → Ends (ends.BadClient offset message.Place) left rs stream.left
+  bad_here offset eo some none = (
+    refl,
+    eo ∙ so.place,
+    so.serving,
+    λ more told. (subst (λ (p : Phase). NoRequest p (stream.left ++ more)) phase_here (none more), λ e. some (empty_left stream.left more e)),
+  )
+
+  -- the input ended in the middle
+  pub cut_here : (offset : ℕ) → offset ≡ stream.offset → stream.left ≢ [] → IsAtEnd left → NoRequest (phase_of stream.opening) stream.left → Ends (ends.BadClient offset message.Place) left rs stream.left
+  cut_here offset eo some ended none = (
+    refl,
+    eo ∙ so.place,
+    so.serving,
+    λ more told.
+        let no_more : more ≡ [] = nothing_more left more ended told in (
+          subst (λ (xs : List ℕ). NoRequest (phase_after_all Phase.Opening rs) (stream.left ++ xs)) (sym no_more)
+              (subst (λ (xs : List ℕ). NoRequest (phase_after_all Phase.Opening rs) xs) (sym (append-nil stream.left)) (subst (λ (p : Phase). NoRequest p stream.left) phase_here none)),
+          λ e. some (empty_left stream.left more e),
+        ),
+  )
+
+  -- so many bytes were read
+  pub spent_here : 2 ^ 48 ≤ taken → taken ≤ 2 ^ 48 → Ends ends.Spent left rs stream.left
+  spent_here least most = omega (arith, so.total, so.place, length-append (flat_map request_bytes rs) stream.left)
 
   -- a request was begun and not answered whole
   pub breaks_off : (r : Request) (t : Stream) (lab' : Lab) (held' : Option (List ℕ)) (status : Status) → (k : Takes stream r t) → Broken keys (state_after_all keys (started g0) rs) r lab' held held' → may_begin status ≡ true → Ends status left rs k.rest

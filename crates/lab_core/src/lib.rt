@@ -11,9 +11,13 @@ mod planning;
 mod relay;
 mod rewriting;
 mod said;
+mod session;
 mod showing;
 mod status;
 mod stop;
+mod top;
 mod words;
 
+pub use session::first_session;
 pub use status::Status;
+pub use top::lab_top;

@@ -1,4 +1,4 @@
-ghost use Rattle.std.specs.Prelude.{◌≡◌, ◌≤◌, length, drop, vec_len, OnOk, OnErr};
+ghost use Rattle.std.specs.Prelude.{◌≡◌, ◌==◌, ◌≤◌, length, drop, vec_len, OnOk, OnErr};
 ghost use Rattle.pg_wire.specs.Streams.{new_stream, fed, Gives};
 
 use crate::frame::{Frame, NextFault, Side};
@@ -53,6 +53,20 @@ impl Framer {
             buffer: Vec::new(alloc),
             start: 0,
         }
+    }
+
+    /// Where the first byte that is left stands in the stream, from 0.
+    pub fn offset(&self) -> u64
+        ensures { result ≡ self.now.offset }
+    {
+        self.offset
+    }
+
+    /// Whether no byte is left.
+    pub fn is_empty(&self) -> bool
+        ensures { result ≡ (length self.now.left == 0) }
+    {
+        self.start == self.buffer.len()
     }
 
     /// Takes the next piece of the stream. Without memory nothing is taken.

@@ -103,6 +103,8 @@ impl MemLink {
         ensures held { mem_held result ≡ Some [] }
         ensures failing { mem_failing result ≡ failing.items }
         ensures calls { mem_calls result ≡ 0 }
+        ensures read_faults { ⟦<MemLink as Source>⟧.read_faults result ≡ 0 }
+        ensures write_faults { ⟦<MemLink as Sink>⟧.write_faults result ≡ 0 }
     {
         MemLink {
             wire: Wire::new(alloc, input),

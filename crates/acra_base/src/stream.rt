@@ -1,4 +1,4 @@
-ghost use Rattle.std.specs.Prelude.{None};
+ghost use Rattle.std.specs.Prelude.{◌≡◌, None};
 
 use crate::device::{Failed, Sink, Source};
 use std::io::{Read, Write};
@@ -12,7 +12,9 @@ pub struct ReaderSource<R: Read + Drop> {
 
 impl<R: Read + Drop> ReaderSource<R> {
     /// The reader, with no fault counted.
-    pub fn new(inner: R) -> Self {
+    pub fn new(inner: R) -> Self
+        ensures { ⟦<ReaderSource<R> as Source>⟧.read_faults result ≡ 0 }
+    {
         ReaderSource { inner, faults: 0 }
     }
 }
@@ -42,7 +44,9 @@ pub struct WriterSink<W: Write + Drop> {
 
 impl<W: Write + Drop> WriterSink<W> {
     /// The writer, with no fault counted.
-    pub fn new(inner: W) -> Self {
+    pub fn new(inner: W) -> Self
+        ensures { ⟦<WriterSink<W> as Sink>⟧.write_faults result ≡ 0 }
+    {
         WriterSink { inner, faults: 0 }
     }
 }

@@ -1,3 +1,4 @@
+pub mod Beginning
 pub mod Joining
 pub mod Doubling
 pub mod Digits

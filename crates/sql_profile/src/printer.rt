@@ -1,4 +1,4 @@
-#![tactic(auto, using(crate::specs::Begins::begins_after))]
+#![tactic(auto, using(crate::proofs::Beginning::begins_after))]
 
 ghost use Rattle.std.specs.Prelude.{◌≡◌, ◌==◌, ◌++◌, ◌∷◌, [], OnOk, OnErr, List, ℕ, if◌then◌else◌, codes};
 ghost use Rattle.std.specs.List.{flat_map};

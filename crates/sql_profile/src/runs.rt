@@ -11,8 +11,11 @@ use std::alloc::Global;
 /// What runs on as far as it goes.
 #[derive(Clone, Copy)]
 pub enum Run {
+    /// What separates tokens.
     Spaces,
+    /// A word behind its first byte.
     Word,
+    /// A number.
     Digits,
     /// All but quotes.
     Unquoted,

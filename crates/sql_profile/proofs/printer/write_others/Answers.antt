@@ -2,7 +2,7 @@ use Rattle.std.proofs.Common.{◌++◌, take, arith}
 use Rattle.std.specs.Prelude.{codes}
 use Rattle.std.specs.List.{flat_map}
 use Rattle.std.proofs.lemmas.Grind.{common_steps}
-use Rattle.sql_profile.specs.Begins.{begins_after}
+use Rattle.sql_profile.proofs.Beginning.{begins_after}
 use Rattle.sql_profile.proofs.Joining.{on_err}
 use Rattle.sql_profile.proofs.printer.write_others.Goals as goal
 

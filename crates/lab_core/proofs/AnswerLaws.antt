@@ -35,16 +35,13 @@ use Rattle.lab_core.specs.Cells.{Keys, IsStored, opened_text}
 use Rattle.lab_core.specs.Runs.{State, written, cell_for, drawn_for, state_after, answer}
 use Rattle.lab_core.specs.Session.{SentFront, Rests}
 use Rattle.lab_core.specs.Relaying.{IsIdle, CanSend, Forwards, Breaks, ForwardGives}
-use Rattle.lab_core.specs.Answering.{request_of, CanAnswer, Answered, Broken, AnswerGives}
+use Rattle.lab_core.specs.Answering.{sent_text, IsPlan, request_of, CanAnswer, Answered, Broken, AnswerGives}
 use Rattle.lab_core.specs.declared.said.Said.TheVariants as said
+use Rattle.lab_core.specs.declared.plan.Plan.{Plan}
 use Rattle.lab_core.proofs.Opened.{rows_open}
 use Rattle.lab_core.proofs.Sending.{sent_is_statement, sent_length}
 use Rattle.lab_core.proofs.Positive.{sent_is_text}
 use Rattle.lab_core.proofs.Meant.{meant_after, cell_length}
-
--- the text that is sent for a statement
-abbrev pub sent_text : Keys → ChaCha → Statement → List ℕ
-sent_text keys g tree = canon (rewritten (cell_for keys g (written tree)) tree)
 
 sent_short : (keys : Keys) (g : ChaCha) (tree : Statement) → IsStatement tree → has_short_strings tree ≡ true → length (sent_text keys g tree) ≤ 2 ^ 21
 sent_short keys g tree s h = omega (arith, sent_length (cell_for keys g (written tree)) tree s, cell_length keys g tree s h)
@@ -148,6 +145,25 @@ module _ (keys : Keys) (s : State) (lab : Lab) (text : List ℕ) (params : List 
     sent = subst (λ (xs : List ℕ). SentFront old new xs) (startup_shown b.messages b.replies.0) b.sent;
   }
 
+-- nothing was sent to the backend
+pub not_begun : (T E : Type 0) (keys : Keys) (s : State) (r : Request) (e : E) (g' : ChaCha) (lab : Lab) (awaits : Bool) (held : Option (List ℕ)) → Rests keys lab s awaits → AnswerGives {T = T} {E = E} keys s r (Err e) g' lab held held
+not_begun T E keys s r e g' lab awaits held rests = record { stand = inl rests.stand; sent = ([], answer keys s r, refl, grew_nothing held) }
+
 -- a backend whose tables stand is idle
 pub idle_of : (keys : Keys) (lab : Lab) (s : State) (awaits : Bool) → Rests keys lab s awaits → IsIdle lab
 idle_of keys lab s awaits r = record { unclosed = r.unclosed; who = r.who; limit = r.limit; idle = r.idle }
+
+-- what was planned for a statement may be sent
+pub plan_sends : (keys : Keys) (g g' : ChaCha) (tree : Statement) (plan : Plan) (opening : Bool) → IsPlan keys g g' tree plan → (opening ≡ false) × IsStatement tree × (has_short_strings tree ≡ true) → CanSend opening plan.request
+plan_sends keys g g' tree plan opening p can = subst (λ (q : Front). CanSend opening q) (sym p.request) (can_send keys g tree opening can.0 can.1 can.2 p.bytes)
+
+-- what was planned for a statement is answered as the plaintext tables answer it
+pub plan_answered : {T E : Type 0} (keys : Keys) (s : State) (lab : Lab) (text : List ℕ) (tree : Statement) (g g' : ChaCha) (plan : Plan) (shown : List Bool) (result : Result T E) (lab' : Lab) (old new : Option (List ℕ))
+    → IsPlan keys g g' tree plan → (lab.stream.opening ≡ false) × IsStatement tree × (has_short_strings tree ≡ true) → Rests keys lab s lab.stream.opening → g ≡ s.coming → shown ≡ plan.protected.items
+    → ForwardGives (shown_message (opened_text keys) shown) lab plan.request result lab' old new → AnswerGives keys s (Request.Asks text tree) result g' lab' old new
+plan_answered keys s lab text tree g g' plan shown result lab' old new p can rests eg es f =
+    let rests' = subst (λ (b : Bool). Rests keys lab s b) can.0 rests in
+    let bytes' = subst (λ (h : ChaCha). IsBytes (cell_for keys h (written tree))) eg p.bytes in
+    let request' = p.request ∙ ap (λ (h : ChaCha). fronts.Query (sent_text keys h tree)) eg in
+    statement_answered keys s lab text tree shown rests' can.1 can.2 bytes' (es ∙ p.protected) result g' lab' old new (subst (λ (q : Front). ForwardGives (shown_message (opened_text keys) shown) lab q result lab' old new) request' f)
+    (p.drawn ∙ ap (λ (h : ChaCha). drawn_for h (written tree)) eg)

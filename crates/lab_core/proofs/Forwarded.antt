@@ -79,7 +79,7 @@ module _ (lab : Lab) (request : Front) (lab' : Lab) (f : IsFed lab request lab')
         messages = x.messages;
         replies = subst (λ (q : Front). Replies lab.session q lab.rows x.messages after.rows) one.0
             (subst (λ (rs : List (List Cell)). Replies lab.session x.request rs x.messages after.rows) rows (subst (λ (n : ℕ). Replies n x.request lab'.rows x.messages after.rows) session x.replied));
-        is = (x.reply ∙ ap (λ (xs : List ℕ). xs ++ flat_map back_frame x.messages) eo, ?);
+        is = (x.reply ∙ ap (λ (xs : List ℕ). xs ++ flat_map back_frame x.messages) eo, x.writable);
         idle = record {
           unclosed = x.still;
           who = ap (λ (s : Stream). s.who) stream ∙ ap (λ (l : Lab). l.stream.who) f.after ∙ f.idle.who;
@@ -96,7 +96,19 @@ module _ (lab : Lab) (request : Front) (lab' : Lab) (f : IsFed lab request lab')
   forwards show after reply old new (Err e) m sends = inr (record { messages = m.messages; replies = m.replies; sent = sends m.messages m.is })
 
   pub fails : (show : Back → Back) (after : Lab) (old new : List ℕ) (held : Option (List ℕ)) → Fails lab' after old new → ((after.rows ≡ lab.rows) × Grew held held []) ⊎ Breaks show lab request after held held
-  fails show after old new held x = ?
+  fails show after old new held x =
+      let rows : lab'.rows ≡ lab.rows = ap (λ (l : Lab). l.rows) f.after in
+      let session : lab'.session ≡ lab.session = ap (λ (l : Lab). l.session) f.after in
+      elim x.rows [
+        | inl same ↦ inl (same ∙ rows, grew_nothing held)
+        | inr b ↦
+            inr (record {
+              messages = b.messages;
+              replies = subst (λ (q : Front). Replies lab.session q lab.rows b.messages after.rows) (first_is b.request b.rest b.first).0
+                  (subst (λ (rs : List (List Cell)). Replies lab.session b.request rs b.messages after.rows) rows (subst (λ (n : ℕ). Replies n b.request lab'.rows b.messages after.rows) session b.replied));
+              sent = nothing_sent held (reply_bytes (map show b.messages));
+            })
+      ]
 
 pub is_fed : (lab : Lab) (request : Front) (lab' : Lab) (start written shown : List ℕ) → IsIdle lab → CanSend lab.stream.opening request → start ≡ [] → written ≡ start ++ front_frame request → shown ≡ written
     → lab' ≡ record lab { stream = fed lab.stream shown } → IsFed lab request lab'

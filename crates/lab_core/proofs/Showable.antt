@@ -16,7 +16,7 @@ use Rattle.pg_wire.specs.declared.back.Back.{Back}
 use Rattle.pg_wire.specs.declared.back.Back.TheVariants as backs
 use Rattle.pg_wire.specs.Fronts.{str}
 use Rattle.pg_wire.specs.Backs.{IsField, field_bytes, IsCell, cell_bytes, IsBack, back_body}
-use Rattle.table_machine.specs.Told.{IsWritable}
+use Rattle.table_machine.specs.Replies.{IsWritable}
 use Rattle.table_machine.proofs.Lengths.{length-field_bytes}
 use Rattle.plain_tables.specs.Shown.{as_text, where_protected, described, opened_or, shown_cell, shown_cells, shown_message}
 use Rattle.lab_core.specs.Containers.{is_container, opened_key, opened_value, opened_container}

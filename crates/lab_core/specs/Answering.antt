@@ -13,7 +13,12 @@ use Rattle.table_machine.specs.Backend.{Lab}
 use Rattle.plain_tables.specs.Requests.{Request, Phase, IsSaid, NoRequest, message_of, request_bytes, message_limit, has_short_strings}
 use Rattle.plain_tables.specs.Standing.{StandFor}
 use Rattle.lab_core.specs.Cells.{Keys, IsStored}
-use Rattle.lab_core.specs.Runs.{State, state_after, answer}
+use Rattle.lab_core.specs.Runs.{State, written, cell_for, drawn_for, state_after, answer}
+use Rattle.hex.specs.Hex.{IsBytes}
+use Rattle.sql_profile.specs.declared.statement.Statement.{Statement}
+use Rattle.sql_profile.specs.Canonical.{canon}
+use Rattle.plain_tables.specs.Rewritten.{rewritten, protected_of}
+use Rattle.lab_core.specs.declared.plan.Plan.{Plan}
 use Rattle.lab_core.specs.Session.{Rests, SentFront}
 use Rattle.lab_core.specs.declared.said.Said.{Said}
 use Rattle.lab_core.specs.declared.said.Said.TheVariants as said
@@ -46,6 +51,19 @@ NextGives s (Ok next.Leaves) t = Takes s Request.Leaves t
 NextGives s (Ok (next.Bad offset)) t = (offset ≡ s.offset) × (s.left ≢ []) × ((more : List ℕ) → NoRequest (phase_of s.opening) (s.left ++ more))
 NextGives s (Ok next.Waiting) t = NoRequest (phase_of s.opening) s.left × (t ≡ s)
 NextGives s (Err e) t = Unit {0}
+
+-- ---- a statement as it is sent on
+
+-- the text that is sent for a statement
+abbrev pub sent_text : Keys → ChaCha → Statement → List ℕ
+sent_text keys g tree = canon (rewritten (cell_for keys g (written tree)) tree)
+
+-- the request for a statement, the protected columns of its result, and the generator then
+pub record IsPlan (keys : Keys) (g g' : ChaCha) (tree : Statement) (plan : Plan) : Type 0 where
+  pub request : plan.request ≡ fronts.Query (sent_text keys g tree)
+  pub protected : plan.protected.items ≡ protected_of tree
+  pub bytes : IsBytes (cell_for keys g (written tree))
+  pub drawn : g' ≡ drawn_for g (written tree)
 
 -- ---- answering
 

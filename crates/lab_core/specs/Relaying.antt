@@ -9,7 +9,7 @@ use Rattle.pg_wire.specs.Streams.{Stream}
 use Rattle.pg_wire.specs.Fronts.{IsFront, front_kind, front_body}
 use Rattle.pg_wire.specs.Backs.{back_frame}
 use Rattle.pg_wire.specs.Frames.{IsFrame, asks_encryption}
-use Rattle.table_machine.specs.Told.{IsWritable}
+use Rattle.table_machine.specs.Replies.{IsWritable}
 use Rattle.table_machine.specs.Backend.{Lab, IsRequest, Replies, text_limit}
 use Rattle.plain_tables.specs.Reply.{reply_bytes}
 use Rattle.lab_core.specs.Session.{SentFront}

@@ -9,12 +9,12 @@ ghost use Rattle.lab_core.specs.Answering.{CanAnswer, AnswerGives, request_of};
 ghost use Rattle.lab_core.specs.declared.said.Said.TheVariants as said_as;
 
 use crate::forward::forward;
-use crate::rewriting::{protected_columns, sealed_statement};
+use crate::planning::plan_for;
 use crate::said::Said;
 use crate::stop::Stop;
-use acra_base::{Bytes, ClientId, Sink, SureRandom};
+use acra_base::{ClientId, Sink, SureRandom};
 use pg_wire::Front;
-use sql_profile::{Statement, print};
+use sql_profile::Statement;
 use std::alloc::Global;
 use table_machine::LabBackend;
 
@@ -36,12 +36,18 @@ fn answer_statement<K: Sink>(
     ensures fault { IsErrOf result Stop.WriteFault → Rose (K.write_faults output.old) (K.write_faults output.new) }
     ensures no_read { IsErrOf result Stop.ReadFault → ⊥ }
 {
-    let protected = protected_columns(alloc, &tree)?;
-    let sent = sealed_statement(alloc, client, key, random, tree)?;
-    let mut text = Vec::new(alloc);
-    print(&sent, &mut text)?;
-    let request = Front::Query(Bytes::from_vec(text));
-    forward(alloc, client, key, backend, output, &request, &protected)
+    match plan_for(alloc, client, key, random, tree) {
+        Err(_) => Err(Stop::NoMemory),
+        Ok(plan) => forward(
+            alloc,
+            client,
+            key,
+            backend,
+            output,
+            &plan.request,
+            &plan.protected,
+        ),
+    }
 }
 
 /// Answers a request: has the backend execute it, and sends the client the reply.

@@ -6,6 +6,8 @@ mod answering;
 mod container;
 mod forward;
 mod opening;
+mod plan;
+mod planning;
 mod relay;
 mod rewriting;
 mod said;

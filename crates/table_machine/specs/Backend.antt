@@ -103,11 +103,19 @@ pub record Idles (lab after : Lab) (old new : List ℕ) : Type 0 where
   -- where a later request may still stand first, nothing of the stream was taken
   pub same : (after.closed ≡ true) ⊎ (after ≡ lab)
 
--- without memory nothing is appended, and the statement was executed or not
+-- the oldest request was executed, and its reply not appended
+pub record Began (lab after : Lab) : Type 0 where
+  pub request : Front
+  pub rest : List ℕ
+  pub first : StandsFirst lab request rest
+  pub messages : List Back
+  pub replied : Replies lab.session request lab.rows messages after.rows
+
+-- without memory nothing is appended, and the request was executed or not
 pub record Fails (lab after : Lab) (old new : List ℕ) : Type 0 where
   pub reply : new ≡ old
   pub session : after.session ≡ lab.session
-  pub rows : (after.rows ≡ lab.rows) ⊎ ((request : Front) × (messages : List Back) × Replies lab.session request lab.rows messages after.rows)
+  pub rows : (after.rows ≡ lab.rows) ⊎ Began lab after
 
 abbrev pub ExecuteGives : {E : Type 0} → Lab → Result Bool E → Lab → List ℕ → List ℕ → Type 0
 ExecuteGives lab (Ok true) after old new = Executes lab after old new

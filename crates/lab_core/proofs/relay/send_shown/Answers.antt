@@ -1,7 +1,7 @@
 use Rattle.std.proofs.Common.{◌≡◌, ◌++◌, ◌<◌, ◌+◌, ◌^◌, List, ℕ, length, sym, subst, ap, ◌∙◌}
 use Rattle.pg_wire.specs.declared.back.Back.{Back}
 use Rattle.pg_wire.specs.Backs.{IsBack, back_body, back_frame}
-use Rattle.table_machine.specs.Told.{IsWritable}
+use Rattle.table_machine.specs.Replies.{IsWritable}
 use Rattle.lab_core.proofs.Showable.{shown_writable}
 use Rattle.lab_core.proofs.Relayed.{front_sent}
 use Rattle.lab_core.proofs.relay.send_shown.Goals as goal

@@ -12,3 +12,5 @@ pub mod Drawing
 pub mod Meant
 pub mod Positive
 pub mod AnswerLaws
+pub mod OneStream
+pub mod Told

@@ -65,7 +65,7 @@ by_kind false kind body = omega (arith, counted_length body)
 pub frame_length : (kind : ℕ) (body : List ℕ) → 4 ≤ length (frame_bytes kind body)
 frame_length kind body = by_kind (kind == 0) kind body
 
-frame_not_empty : (kind : ℕ) (body rest : List ℕ) → frame_bytes kind body ++ rest ≡ [] → ⊥
+pub frame_not_empty : (kind : ℕ) (body rest : List ℕ) → frame_bytes kind body ++ rest ≡ [] → ⊥
 frame_not_empty kind body rest e = absurd (omega (arith, ap length e, length-append (frame_bytes kind body) rest, frame_length kind body))
 
 -- the frame that is given is the first message's

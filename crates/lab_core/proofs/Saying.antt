@@ -26,7 +26,7 @@ use Rattle.lab_core.specs.declared.said.Next.{Next}
 use Rattle.lab_core.specs.declared.said.Next.TheVariants as next
 
 -- a request in its place is a frame there
-said_frame : (opening : Bool) (r : Request) → IsSaid (phase_of opening) r → IsFrame side.Client message_limit opening (front_kind (message_of r)) (front_body (message_of r))
+pub said_frame : (opening : Bool) (r : Request) → IsSaid (phase_of opening) r → IsFrame side.Client message_limit opening (front_kind (message_of r)) (front_body (message_of r))
 said_frame true (Request.Opens params) h = h.1
 said_frame true (Request.Asks text tree) h = absurd h
 said_frame true Request.Leaves h = absurd h

@@ -2,6 +2,7 @@
 use Rattle.std.proofs.Common.{◌≡◌, ◌≢◌, ℕ, ◌+◌, ◌%◌, ◌^◌, ◌≤◌, ◌<◌, ◌⊎◌, inl, inr, ◌&&◌, Bool, true, false, ◌==◌, List, [], ◌∷◌, ◌++◌, length, Option, Some, None, Result, Ok, Err, refl, sym, ap, subst, ◌∙◌, append_assoc, arith}
 use Rattle.std.specs.Prelude.{IsErrOf}
 use Rattle.std.specs.List.{flat_map}
+use Rattle.std.proofs.lemmas.Bool.{eqb-true}
 use Rattle.std.proofs.lemmas.List.{append-nil, length-append}
 use Rattle.rand_chacha.specs.ChaCha.{ChaCha}
 use Rattle.acra_base.specs.Known.{Grew, Shrank, IsAtEnd}
@@ -99,8 +100,7 @@ length_zero [] e = refl
 length_zero (x ∷ xs) e = absurd (omega (arith, e))
 
 pub none_left : (xs : List ℕ) → true ≡ (length xs == 0) → xs ≡ []
-none_left [] e = refl
-none_left (x ∷ xs) e = let t : true ≡ false = e in absurd cc
+none_left xs e = length_zero xs (eqb-true (length xs) 0 (sym e))
 
 pub some_left : (xs : List ℕ) → false ≡ (length xs == 0) → xs ≢ []
 some_left [] e none = let t : false ≡ true = e in absurd cc

@@ -1,0 +1,213 @@
+-- From what a session did to what is told of it.
+use Rattle.std.proofs.Common.{◌≡◌, ◌≢◌, ℕ, ◌+◌, ◌^◌, ◌≤◌, ◌⊎◌, inl, inr, Bool, true, false, Option, Some, None, List, [], ◌∷◌, ◌++◌, length, get_or, unwrap_or, refl, sym, ap, subst, ◌∙◌, append_assoc, arith}
+use Rattle.std.specs.List.{flat_map}
+use Rattle.std.proofs.lemmas.List.{append-nil, length-append}
+use Rattle.rand_chacha.specs.ChaCha.{ChaCha}
+use Rattle.acra_base.specs.Client.{IsClientId}
+use Rattle.pg_wire.specs.declared.frame.MessageFault.{MessageFault}
+use Rattle.pg_wire.specs.declared.frame.MessageFault.TheVariants as message
+use Rattle.pg_wire.specs.Fronts.{front_kind, front_body}
+use Rattle.table_machine.specs.declared.cell.Cell.{Cell}
+use Rattle.plain_tables.specs.Requests.{Request, Phase, phase_after_all, IsSaid, AreSaid, message_of, request_bytes, stream_of, NoRequest, Splits}
+use Rattle.lab_core.specs.Cells.{Keys}
+use Rattle.lab_core.specs.Runs.{started, answers}
+use Rattle.lab_core.specs.Words.{IsSession, number_of, client_drawn}
+use Rattle.lab_core.specs.Session.{Ran, MayBegin, may_begin}
+use Rattle.lab_core.specs.Headline.{WhereTold, replies_to, IsOver, AllAnswered, AnsweredTo, AnsweredRead, AnsweredSpent, AnsweredFront, Headline, Due, IsDue, Untouched}
+use Rattle.lab_core.specs.declared.status.Status.{Status}
+use Rattle.lab_core.specs.declared.status.Status.TheVariants as ends
+use Rattle.lab_core.proofs.OneStream.{one_stream}
+use Rattle.lab_core.proofs.Relayed.{frame_not_empty}
+use Rattle.lab_core.proofs.Steps.{stream_more, length_zero}
+
+-- ---- where no request begins
+
+nothing : (p : Phase) (bytes : List ℕ) → bytes ≡ [] → NoRequest p bytes
+nothing p bytes none r rest is e = frame_not_empty (front_kind (message_of r)) (front_body (message_of r)) rest (sym e ∙ none)
+
+over_says_nothing : (r : Request) → IsSaid Phase.Over r → ⊥
+over_says_nothing (Request.Opens params) h = absurd h
+over_says_nothing (Request.Asks text tree) h = absurd h
+over_says_nothing Request.Leaves h = absurd h
+
+over : (p : Phase) (bytes : List ℕ) → p ≡ Phase.Over → NoRequest p bytes
+over p bytes e r rest is same = over_says_nothing r (subst (λ (q : Phase). IsSaid q r) e is)
+
+-- ---- ends that begin nothing
+
+none_begun : (status : Status) (begun : List Request) → may_begin status ≡ false → MayBegin status begun → begun ≡ []
+none_begun status [] e m = refl
+none_begun status (r ∷ []) e m = let t : false ≡ true = sym e ∙ m in absurd cc
+none_begun status (r ∷ q ∷ qs) e m = absurd m
+
+cut : (xs ys zs : List ℕ) → (xs ++ ys) ++ zs ≡ xs → ys ≡ []
+cut xs ys zs e = length_zero ys (omega (arith, ap length e, length-append (xs ++ ys) zs, length-append xs ys))
+
+-- what a session did that answered all that it took
+record Whole (keys : Keys) (g0 : ChaCha) (client unread before after : List ℕ) (answered : List Request) (rest : List ℕ) : Type 0 where
+  pub each : AreSaid Phase.Opening answered
+  pub whole : client ≡ stream_of answered (rest ++ unread)
+  pub sent : after ≡ before ++ answers keys (started g0) answered
+
+module _ (keys : Keys) (g0 : ChaCha) (client unread before after : List ℕ) (tables : List (List Cell)) where
+  whole : (status : Status) (answered begun : List Request) (rest : List ℕ) → may_begin status ≡ false → Ran keys g0 (Some client) (Some unread) (Some before) (Some after) tables status answered begun rest
+      → Whole keys g0 client unread before after answered rest
+  whole status answered begun rest may r =
+      let none = none_begun status begun may r.why_begun in
+      let all : answered ++ begun ≡ answered = ap (λ (qs : List Request). answered ++ qs) none ∙ append-nil answered in
+      let sent : r.behind ≡ [] = cut (answers keys (started g0) answered) r.behind r.more (r.replies ∙ ap (answers keys (started g0)) all) in
+      record {
+        each = subst (λ (qs : List Request). AreSaid Phase.Opening qs) all r.each;
+        whole = r.read ∙ stream_more (answered ++ begun) rest unread ∙ ap (λ (qs : List Request). stream_of qs (rest ++ unread)) all;
+        sent = r.sent ∙ ap (λ (xs : List ℕ). before ++ (answers keys (started g0) answered ++ xs)) sent ∙ ap (λ (xs : List ℕ). before ++ xs) (append-nil (answers keys (started g0) answered));
+      }
+
+-- ---- the headline
+
+one_at_most : (status : Status) (begun : List Request) → MayBegin status begun → length begun ≤ 1
+one_at_most status [] m = omega arith
+one_at_most status (r ∷ []) m = omega arith
+one_at_most status (r ∷ q ∷ qs) m = absurd m
+
+-- the keys of a client, and its session's generator
+abbrev keys_of : List ℕ → ℕ → Keys
+keys_of name seed = record { client = name; key = (client_drawn seed).0 }
+
+module _ (name : List ℕ) (seed : ℕ) (client unread before after : List ℕ) (tables : List (List Cell)) where
+  abbrev Run : Status → List Request → List Request → List ℕ → Type 0
+  Run status answered begun rest = Ran (keys_of name seed) (client_drawn seed).1 (Some client) (Some unread) (Some before) (Some after) tables status answered begun rest
+
+  abbrev All : List Request → List ℕ → Type 0
+  All answered rest = Whole (keys_of name seed) (client_drawn seed).1 client unread before after answered rest
+
+  done : (answered begun : List Request) (rest : List ℕ) → Run ends.Done answered begun rest → AllAnswered name seed client before after
+  done answered begun rest r =
+      let w : All answered rest = whole _ _ client unread before after tables ends.Done answered begun rest refl r in
+      let is_over : IsOver answered (rest ++ unread) = elim r.why [ inl h ↦ inl (ap (λ (xs : List ℕ). xs ++ unread) h.0 ∙ h.1) | inr h ↦ inr h ] in
+      let last : NoRequest (phase_after_all Phase.Opening answered) (rest ++ unread) = elim is_over [ inl h ↦ nothing (phase_after_all Phase.Opening answered) (rest ++ unread) h | inr h ↦ over (phase_after_all Phase.Opening answered) (rest ++ unread) h ] in
+      record { requests = answered; rest = rest ++ unread; parts = record { whole = w.whole; each = w.each; last = last }; over = is_over; sent = w.sent }
+
+  bad : (offset : ℕ) (kind : MessageFault) (answered begun : List Request) (rest : List ℕ) → Run (ends.BadClient offset kind) answered begun rest → Headline name seed (ends.BadClient offset kind) client unread before after
+  bad offset kind answered begun rest r =
+      let w : All answered rest = whole _ _ client unread before after tables (ends.BadClient offset kind) answered begun rest refl r in
+      let none = r.why.3 unread refl in
+      let left : IsOver answered (rest ++ unread) → ⊥ = λ o. elim o [ inl h ↦ none.1 h | inr h ↦ r.why.2 h ] in
+      subst (λ (k : MessageFault). Headline name seed (ends.BadClient offset k) client unread before after) (sym r.why.0)
+          (record { requests = answered; rest = rest ++ unread; parts = record { whole = w.whole; each = w.each; last = none.0 }; left = left; place = r.why.1; sent = w.sent })
+
+  read : (status : Status) (answered begun : List Request) (rest : List ℕ) → may_begin status ≡ false → Run status answered begun rest → AnsweredRead name seed client unread before after
+  read status answered begun rest may r =
+      let w : All answered rest = whole _ _ client unread before after tables status answered begun rest may r in
+      record { requests = answered; rest = rest; whole = w.whole ∙ sym (stream_more answered rest unread); each = w.each; sent = w.sent }
+
+  spent : (answered begun : List Request) (rest : List ℕ) → Run ends.Spent answered begun rest → AnsweredSpent name seed client unread before after
+  spent answered begun rest r =
+      let w : All answered rest = whole _ _ client unread before after tables ends.Spent answered begun rest refl r in
+      record {
+        answered = read ends.Spent answered begun rest refl r;
+        spent = ap length (w.whole ∙ sym (stream_more answered rest unread)) ∙ length-append (stream_of answered rest) unread ∙ ap (λ (n : ℕ). n + length unread) r.why;
+      }
+
+  front : (status : Status) (answered begun : List Request) (rest : List ℕ) → Run status answered begun rest → AnsweredFront name seed client unread before after
+  front status answered begun rest r = record {
+    answered = answered;
+    begun = begun;
+    rest = rest;
+    whole = r.read;
+    each = r.each;
+    one = one_at_most status begun r.why_begun;
+    behind = r.behind;
+    more = r.more;
+    replies = r.replies;
+    sent = r.sent;
+  }
+
+  told : (status : Status) (answered begun : List Request) (rest : List ℕ) → Run status answered begun rest → Headline name seed status client unread before after
+  told ends.Done answered begun rest r = done answered begun rest r
+  told (ends.BadClient offset kind) answered begun rest r = bad offset kind answered begun rest r
+  told ends.Usage answered begun rest r = absurd r.why
+  told ends.ReadFault answered begun rest r = read ends.ReadFault answered begun rest refl r
+  told ends.Spent answered begun rest r = spent answered begun rest r
+  told ends.WriteFault answered begun rest r = front ends.WriteFault answered begun rest r
+  told ends.NoMemory answered begun rest r = front ends.NoMemory answered begun rest r
+
+-- ---- what is due
+
+module _ (name : List ℕ) (seed : ℕ) (client unread before after : List ℕ) where
+  due_done : AllAnswered name seed client before after → (requests : List Request) (rest : List ℕ) → Splits client requests rest → Due name seed ends.Done requests rest before after
+  due_done h requests rest s =
+      let e = one_stream client h.rest rest h.requests requests h.parts s in
+      (
+        subst (λ (xs : List ℕ). IsOver requests xs) e.1 (subst (λ (rs : List Request). IsOver rs h.rest) e.0 h.over),
+        h.sent ∙ ap (λ (rs : List Request). before ++ replies_to name seed rs) e.0,
+      )
+
+  due_bad : (offset : ℕ) (kind : MessageFault) → AnsweredTo name seed offset client before after → (requests : List Request) (rest : List ℕ) → Splits client requests rest → Due name seed (ends.BadClient offset kind) requests rest before after
+  due_bad offset kind h requests rest s =
+      let e = one_stream client h.rest rest h.requests requests h.parts s in
+      (
+        λ o. h.left (subst (λ (xs : List ℕ). IsOver h.requests xs) (sym e.1) (subst (λ (rs : List Request). IsOver rs rest) (sym e.0) o)),
+        h.place ∙ ap (λ (rs : List Request). length (flat_map request_bytes rs)) e.0,
+        h.sent ∙ ap (λ (rs : List Request). before ++ replies_to name seed rs) e.0,
+      )
+
+  in_place : (offset : ℕ) (kind : MessageFault) → Headline name seed (ends.BadClient offset kind) client unread before after → AnsweredTo name seed offset client before after
+  in_place offset message.Place h = h
+  in_place offset (message.Frame fault) h = absurd h
+  in_place offset message.Body h = absurd h
+  in_place offset message.Batch h = absurd h
+  in_place offset message.Shape h = absurd h
+
+  is_due : (status : Status) → Headline name seed status client unread before after → IsDue name seed status client unread before after
+  is_due ends.Done h requests rest s = due_done h requests rest s
+  is_due (ends.BadClient offset kind) h requests rest s = due_bad offset kind (in_place offset kind h) requests rest s
+  is_due ends.Usage h requests rest s = tt
+  is_due ends.ReadFault h requests rest s = tt
+  is_due ends.Spent h requests rest s = tt
+  is_due ends.WriteFault h requests rest s = tt
+  is_due ends.NoMemory h requests rest s = tt
+
+-- ---- where it is told
+
+pub headline_of : (name : List ℕ) (seed : ℕ) (left0 left held0 held : Option (List ℕ)) (tables : List (List Cell)) (status : Status) (answered begun : List Request) (rest : List ℕ)
+    → Ran (keys_of name seed) (client_drawn seed).1 left0 left held0 held tables status answered begun rest → WhereTold left0 left held0 held (Headline name seed status)
+headline_of name seed (Some client) (Some unread) (Some before) (Some after) tables status answered begun rest r = told name seed client unread before after tables status answered begun rest r
+headline_of name seed None left held0 held tables status answered begun rest r = tt
+headline_of name seed (Some client) None held0 held tables status answered begun rest r = tt
+headline_of name seed (Some client) (Some unread) None held tables status answered begun rest r = tt
+headline_of name seed (Some client) (Some unread) (Some before) None tables status answered begun rest r = tt
+
+pub due_of : (name : List ℕ) (seed : ℕ) (left0 left held0 held : Option (List ℕ)) (tables : List (List Cell)) (status : Status) (answered begun : List Request) (rest : List ℕ)
+    → Ran (keys_of name seed) (client_drawn seed).1 left0 left held0 held tables status answered begun rest → WhereTold left0 left held0 held (IsDue name seed status)
+due_of name seed (Some client) (Some unread) (Some before) (Some after) tables status answered begun rest r = is_due name seed client unread before after status (told name seed client unread before after tables status answered begun rest r)
+due_of name seed None left held0 held tables status answered begun rest r = tt
+due_of name seed (Some client) None held0 held tables status answered begun rest r = tt
+due_of name seed (Some client) (Some unread) None held tables status answered begun rest r = tt
+due_of name seed (Some client) (Some unread) (Some before) None tables status answered begun rest r = tt
+
+pub untouched : (left held : Option (List ℕ)) → WhereTold left left held held Untouched
+untouched (Some client) (Some before) = (refl, refl)
+untouched None held = tt
+untouched (Some client) None = tt
+
+-- ---- words
+
+-- the words name one client and one seed
+pub one_session : (words : List (List ℕ)) (a b : List ℕ) (m n : ℕ) → IsSession words a m → IsSession words b n → (a ≡ b) × (m ≡ n)
+one_session words a b m n s t =
+    let same = sym s.shape ∙ t.shape in
+    let digits : s.digits ≡ t.digits = ap (λ (ws : List (List ℕ)). get_or ws 2 []) same in
+    (
+      ap (λ (ws : List (List ℕ)). get_or ws 1 []) same,
+      ap (λ (o : Option ℕ). unwrap_or o 0) (sym s.number ∙ ap number_of digits ∙ t.number),
+    )
+
+-- a session that ran under the words ran for any client and seed that they name
+pub named : (words : List (List ℕ)) (name : List ℕ) (seed : ℕ) (found key : List ℕ) (of : ℕ) (g0 : ChaCha) (left0 left held0 held : Option (List ℕ)) (tables : List (List Cell)) (status : Status) (answered begun : List Request) (rest : List ℕ)
+    → IsSession words found of → IsSession words name seed → (key, g0) ≡ client_drawn of → Ran (record { client = found; key = key }) g0 left0 left held0 held tables status answered begun rest
+    → Ran (keys_of name seed) (client_drawn seed).1 left0 left held0 held tables status answered begun rest
+named words name seed found key of g0 left0 left held0 held tables status answered begun rest a b drawn r =
+    let e = one_session words found name of seed a b in
+    let by_seed = subst (λ (d : List ℕ × ChaCha). Ran (record { client = found; key = d.0 }) d.1 left0 left held0 held tables status answered begun rest) drawn r in
+    let by_name = subst (λ (client : List ℕ). Ran (keys_of client of) (client_drawn of).1 left0 left held0 held tables status answered begun rest) e.0 by_seed in
+    subst (λ (n : ℕ). Ran (keys_of name n) (client_drawn n).1 left0 left held0 held tables status answered begun rest) e.1 by_name

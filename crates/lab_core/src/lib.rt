@@ -21,3 +21,6 @@ mod words;
 pub use session::first_session;
 pub use status::Status;
 pub use top::lab_top;
+
+#[cfg(test)]
+mod tests;

@@ -12,3 +12,4 @@ pub mod Drawing
 pub mod Meant
 pub mod Positive
 pub mod AnswerLaws
+mod Worked

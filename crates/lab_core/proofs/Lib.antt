@@ -14,3 +14,4 @@ pub mod Positive
 pub mod AnswerLaws
 pub mod OneStream
 pub mod Told
+mod Worked

@@ -8,3 +8,4 @@ pub mod Headline
 pub mod Relaying
 pub mod Understood
 pub mod Answering
+pub mod Example

@@ -4,6 +4,7 @@
 
 mod answering;
 mod container;
+mod example;
 mod forward;
 mod opening;
 mod plan;
@@ -18,6 +19,7 @@ mod stop;
 mod top;
 mod words;
 
+pub use example::example_replies;
 pub use session::first_session;
 pub use status::Status;
 pub use top::lab_top;

@@ -40,7 +40,7 @@ module _ (name : List ℕ) (seed : ℕ) where
     pub place : offset ≡ length (flat_map request_bytes requests)
     pub sent : after ≡ before ++ replies_to name seed requests
 
-  -- all requests that were read whole are answered
+  -- the requests from the front on are answered, each of them whole
   pub record AnsweredRead (client unread before after : List ℕ) : Type 0 where
     pub requests : List Request
     pub rest : List ℕ

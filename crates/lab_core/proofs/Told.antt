@@ -93,7 +93,7 @@ module _ (name : List ℕ) (seed : ℕ) (client unread before after : List ℕ) 
       let none = r.why.3 unread refl in
       let left : IsOver answered (rest ++ unread) → ⊥ = λ o. elim o [ inl h ↦ none.1 h | inr h ↦ r.why.2 h ] in
       subst (λ (k : MessageFault). Headline name seed (ends.BadClient offset k) client unread before after) (sym r.why.0)
-          (record { requests = answered; rest = rest ++ unread; parts = record { whole = w.whole; each = w.each; last = none.0 }; left = left; place = r.why.1; sent = w.sent })
+      (record { requests = answered; rest = rest ++ unread; parts = record { whole = w.whole; each = w.each; last = none.0 }; left = left; place = r.why.1; sent = w.sent })
 
   read : (status : Status) (answered begun : List Request) (rest : List ℕ) → may_begin status ≡ false → Run status answered begun rest → AnsweredRead name seed client unread before after
   read status answered begun rest may r =
@@ -136,16 +136,14 @@ module _ (name : List ℕ) (seed : ℕ) (client unread before after : List ℕ) 
 module _ (name : List ℕ) (seed : ℕ) (client unread before after : List ℕ) where
   due_done : AllAnswered name seed client before after → (requests : List Request) (rest : List ℕ) → Splits client requests rest → Due name seed ends.Done requests rest before after
   due_done h requests rest s =
-      let e = one_stream client h.rest rest h.requests requests h.parts s in
-      (
+      let e = one_stream client h.rest rest h.requests requests h.parts s in (
         subst (λ (xs : List ℕ). IsOver requests xs) e.1 (subst (λ (rs : List Request). IsOver rs h.rest) e.0 h.over),
         h.sent ∙ ap (λ (rs : List Request). before ++ replies_to name seed rs) e.0,
       )
 
   due_bad : (offset : ℕ) (kind : MessageFault) → AnsweredTo name seed offset client before after → (requests : List Request) (rest : List ℕ) → Splits client requests rest → Due name seed (ends.BadClient offset kind) requests rest before after
   due_bad offset kind h requests rest s =
-      let e = one_stream client h.rest rest h.requests requests h.parts s in
-      (
+      let e = one_stream client h.rest rest h.requests requests h.parts s in (
         λ o. h.left (subst (λ (xs : List ℕ). IsOver h.requests xs) (sym e.1) (subst (λ (rs : List Request). IsOver rs rest) (sym e.0) o)),
         h.place ∙ ap (λ (rs : List Request). length (flat_map request_bytes rs)) e.0,
         h.sent ∙ ap (λ (rs : List Request). before ++ replies_to name seed rs) e.0,
@@ -196,8 +194,7 @@ untouched (Some client) None = tt
 pub one_session : (words : List (List ℕ)) (a b : List ℕ) (m n : ℕ) → IsSession words a m → IsSession words b n → (a ≡ b) × (m ≡ n)
 one_session words a b m n s t =
     let same = sym s.shape ∙ t.shape in
-    let digits : s.digits ≡ t.digits = ap (λ (ws : List (List ℕ)). get_or ws 2 []) same in
-    (
+    let digits : s.digits ≡ t.digits = ap (λ (ws : List (List ℕ)). get_or ws 2 []) same in (
       ap (λ (ws : List (List ℕ)). get_or ws 1 []) same,
       ap (λ (o : Option ℕ). unwrap_or o 0) (sym s.number ∙ ap number_of digits ∙ t.number),
     )

@@ -57,10 +57,14 @@ returns-in-Err-answer-clause-ran g c =
     let n = next_is NoMemory _ _ c.in-Ok-Said.field-0 (next.Said c.in-Ok-Said.said) c.in-Ok-Said.field-0-is c.in-Ok-Said.ensures in
     let keys : Keys = record { client = c.args.who.now; key = c.args.key.now } in
     let rests = subst (λ (b : Bool). Rests keys c.session.backend (state_after_all keys (started c.args.random.now) s.0) b) (sym s.1.rests.opening) s.1.rests in
-    let b = c.in-Err-answer.ensures.gives (state_after_all keys (started c.args.random.now) s.0) n.0 rests s.1.drawn in
-    (s.0, _, n.1.rest, breaks_off _ _ _ _ _ _ _ _ _ _ s.0 s.1 (request_of n.0 c.in-Ok-Said.said) _ _ _ c.stopped.result n.1 b
-        (subst (λ (x : Status). may_begin x ≡ true) (sym c.stopped.ensures) (may_stop c.in-Err-answer.stop (not_read c.in-Err-answer.stop c.in-Err-answer.ensures.no_read)))
-        (subst (λ (x : Status). Ends x (g.S.Source.left c.session.input) s.0 n.1.rest) (sym c.stopped.ensures) (ends_stopped c.in-Err-answer.stop _ _ _)))
+    let b = c.in-Err-answer.ensures.gives (state_after_all keys (started c.args.random.now) s.0) n.0 rests s.1.drawn in (
+      s.0,
+      _,
+      n.1.rest,
+      breaks_off _ _ _ _ _ _ _ _ _ _ s.0 s.1 (request_of n.0 c.in-Ok-Said.said) _ _ _ c.stopped.result n.1 b
+          (subst (λ (x : Status). may_begin x ≡ true) (sym c.stopped.ensures) (may_stop c.in-Err-answer.stop (not_read c.in-Err-answer.stop c.in-Err-answer.ensures.no_read)))
+          (subst (λ (x : Status). Ends x (g.S.Source.left c.session.input) s.0 n.1.rest) (sym c.stopped.ensures) (ends_stopped c.in-Err-answer.stop _ _ _)),
+    )
 
 pub returns-then-taken-ge-READ_LIMIT-clause-ran : goal.returns-then-taken-ge-READ_LIMIT-clause-ran
 returns-then-taken-ge-READ_LIMIT-clause-ran g c =
@@ -69,9 +73,13 @@ returns-then-taken-ge-READ_LIMIT-clause-ran g c =
 
 pub returns-in-Err-read_piece-clause-ran : goal.returns-in-Err-read_piece-clause-ran
 returns-in-Err-read_piece-clause-ran g c =
-    let s = c.session.invariant.so_far in
-    (s.0, [], _, lost _ _ _ _ _ _ _ _ _ _ s.0 s.1 _ c.stopped-in-Err-read_piece.result c.in-Err-read_piece.ensures.err
-        (subst (λ (x : Status). Ends x (g.S.Source.left c.read_piece.new.input) s.0 (c.session.framer.left ++ c.in-Err-read_piece.ensures.err.0)) (sym c.stopped-in-Err-read_piece.ensures) (ends_stopped c.in-Err-read_piece.stop _ _ _)))
+    let s = c.session.invariant.so_far in (
+      s.0,
+      [],
+      _,
+      lost _ _ _ _ _ _ _ _ _ _ s.0 s.1 _ c.stopped-in-Err-read_piece.result c.in-Err-read_piece.ensures.err
+          (subst (λ (x : Status). Ends x (g.S.Source.left c.read_piece.new.input) s.0 (c.session.framer.left ++ c.in-Err-read_piece.ensures.err.0)) (sym c.stopped-in-Err-read_piece.ensures) (ends_stopped c.in-Err-read_piece.stop _ _ _)),
+    )
 
 pub returns-then-is_empty-clause-ran : goal.returns-then-is_empty-clause-ran
 returns-then-is_empty-clause-ran g c =

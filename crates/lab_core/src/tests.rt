@@ -167,6 +167,14 @@ fn bad_from(offset: u64) -> Status {
     }
 }
 
+fn joined(alloc: Global, parts: &[&[u8]]) -> Result<Vec<u8>, Fail> {
+    let mut bytes = Vec::new(alloc);
+    'parts: for part in parts {
+        bytes.extend_from_slice(part)?;
+    }
+    Ok(bytes)
+}
+
 #[test]
 fn ends_of_sessions(rt: HostRuntime) -> Result<(), Fail> {
     let alloc = rt.alloc();
@@ -217,10 +225,7 @@ fn ends_of_sessions(rt: HostRuntime) -> Result<(), Fail> {
         (&[&REQUESTS[..100], &REQUESTS[..18]], bad_from(100), REPLIES),
     ];
     'cases: for (parts, end, replies) in cases {
-        let mut bytes = Vec::new(alloc);
-        'parts: for part in parts {
-            bytes.extend_from_slice(part)?;
-        }
+        let bytes = joined(alloc, parts)?;
         let (status, sent) = session(alloc, &mut SureLink::new(alloc, bytes.clone()?))?;
         assert_eq!(rt; status, end, "at {bytes:?}");
         assert_eq!(rt; sent.as_slice(), replies, "at {bytes:?}");

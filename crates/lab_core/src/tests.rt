@@ -118,14 +118,14 @@ fn each_read_fails(rt: HostRuntime) -> Result<(), Fail> {
     'calls: for call in 0..105 {
         let mut input = Pieces::new(REQUESTS, 1, Some(call));
         let (status, sent) = session(alloc, &mut input)?;
-        let end = match call {
-            0..18 => 0,
-            18..72 => 90,
-            72..100 => 112,
-            _ => 177,
+        let replies: &[u8] = match call {
+            0..18 => b"",
+            18..72 => &REPLIES[..90],
+            72..100 => &REPLIES[..112],
+            _ => REPLIES,
         };
         assert_eq!(rt; status, Status::ReadFault, "at read {call}");
-        assert_eq!(rt; sent.as_slice(), &REPLIES[..end], "at read {call}");
+        assert_eq!(rt; sent.as_slice(), replies, "at read {call}");
     }
 
     let input = Vec::from_slice(alloc, REQUESTS)?;
@@ -167,30 +167,47 @@ fn bad_from(offset: u64) -> Status {
     }
 }
 
+fn joined(alloc: Global, parts: &[&[u8]]) -> Result<Vec<u8>, Fail> {
+    let mut bytes = Vec::new(alloc);
+    'parts: for part in parts {
+        bytes.extend_from_slice(part)?;
+    }
+    Ok(bytes)
+}
+
 #[test]
 fn ends_of_sessions(rt: HostRuntime) -> Result<(), Fail> {
     let alloc = rt.alloc();
-    let cases: [(&[&[u8]], Status, usize); 17] = [
-        (&[], Status::Done, 0),
-        (&[STARTUP], Status::Done, 90),
-        (&[&REQUESTS[..72]], Status::Done, 112),
-        (&[REQUESTS, b"Q\x00\x00\x00\x03"], Status::Done, 177),
+    let started = &REPLIES[..90];
+    let cases: [(&[&[u8]], Status, &[u8]); 17] = [
+        (&[], Status::Done, b""),
+        (&[STARTUP], Status::Done, started),
+        (&[&REQUESTS[..72]], Status::Done, &REPLIES[..112]),
+        (&[REQUESTS, b"Q\x00\x00\x00\x03"], Status::Done, REPLIES),
         // Nothing may stand before the startup message: the length that this begins with is too large.
-        (&[SELECT, STARTUP], bad_from(0), 0),
+        (&[SELECT, STARTUP], bad_from(0), b""),
         // It asks for encryption by TLS.
         (
             &[b"\x00\x00\x00\x08\x04\xd2\x16\x2f", STARTUP],
             bad_from(0),
-            0,
+            b"",
         ),
-        (&[b"\x00\x00\x00\x12\x00\x03\x00\x00user"], bad_from(0), 0),
-        (&[STARTUP, STARTUP], bad_from(18), 90),
-        (&[STARTUP, b"Q\x00\x00\x00\x03", SELECT], bad_from(18), 90),
-        (&[STARTUP, b"Q\x01\x00\x00\x01"], bad_from(18), 90),
-        (&[STARTUP, b"Q"], bad_from(18), 90),
-        (&[STARTUP, &SELECT[..27]], bad_from(18), 90),
-        (&[STARTUP, b"X\x00\x00\x00\x05\x00"], bad_from(18), 90),
-        (&[STARTUP, b"S\x00\x00\x00\x04", SELECT], bad_from(18), 90),
+        (&[b"\x00\x00\x00\x12\x00\x03\x00\x00user"], bad_from(0), b""),
+        (&[STARTUP, STARTUP], bad_from(18), started),
+        (
+            &[STARTUP, b"Q\x00\x00\x00\x03", SELECT],
+            bad_from(18),
+            started,
+        ),
+        (&[STARTUP, b"Q\x01\x00\x00\x01"], bad_from(18), started),
+        (&[STARTUP, b"Q"], bad_from(18), started),
+        (&[STARTUP, &SELECT[..27]], bad_from(18), started),
+        (&[STARTUP, b"X\x00\x00\x00\x05\x00"], bad_from(18), started),
+        (
+            &[STARTUP, b"S\x00\x00\x00\x04", SELECT],
+            bad_from(18),
+            started,
+        ),
         (
             &[
                 STARTUP,
@@ -198,19 +215,20 @@ fn ends_of_sessions(rt: HostRuntime) -> Result<(), Fail> {
                 SELECT,
             ],
             bad_from(18),
-            90,
+            started,
         ),
-        (&[&REQUESTS[..72], b"X\x00\x00"], bad_from(72), 112),
-        (&[&REQUESTS[..100], &REQUESTS[..18]], bad_from(100), 177),
+        (
+            &[&REQUESTS[..72], b"X\x00\x00"],
+            bad_from(72),
+            &REPLIES[..112],
+        ),
+        (&[&REQUESTS[..100], &REQUESTS[..18]], bad_from(100), REPLIES),
     ];
-    'cases: for (parts, end, length) in cases {
-        let mut bytes = Vec::new(alloc);
-        'parts: for part in parts {
-            bytes.extend_from_slice(part)?;
-        }
+    'cases: for (parts, end, replies) in cases {
+        let bytes = joined(alloc, parts)?;
         let (status, sent) = session(alloc, &mut SureLink::new(alloc, bytes.clone()?))?;
         assert_eq!(rt; status, end, "at {bytes:?}");
-        assert_eq!(rt; sent.as_slice(), &REPLIES[..length], "at {bytes:?}");
+        assert_eq!(rt; sent.as_slice(), replies, "at {bytes:?}");
     }
     Ok(())
 }

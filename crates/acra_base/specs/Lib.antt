@@ -10,3 +10,4 @@ pub mod Draws
 pub mod Seal
 pub mod Opening
 pub mod Trial
+pub mod Histories

@@ -1,5 +1,5 @@
 //! What every crate of the suite stands on: devices with told content and counts of faults, client
-//! ids, bytes, names and lists, seeded bytes, and the trait of the ciphers.
+//! ids, bytes, names and lists, seeded bytes, and the traits of ciphers and of machines.
 #![tactic(auto)]
 
 mod aead;
@@ -7,6 +7,7 @@ mod bytes;
 mod client;
 mod device;
 mod kind;
+mod machine;
 mod memory;
 mod name;
 mod no_memory;
@@ -22,6 +23,7 @@ pub use bytes::Bytes;
 pub use client::{BadClientId, ClientId};
 pub use device::{Failed, Link, Sink, Source};
 pub use kind::ValueKind;
+pub use machine::Machine;
 pub use memory::{MemLink, SureLink};
 pub use name::Name;
 pub use no_memory::NoMemory;

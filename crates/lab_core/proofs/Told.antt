@@ -4,21 +4,29 @@ use Rattle.std.specs.List.{flat_map}
 use Rattle.std.proofs.lemmas.List.{append-nil, length-append}
 use Rattle.rand_chacha.specs.ChaCha.{ChaCha}
 use Rattle.acra_base.specs.Client.{IsClientId}
+use Rattle.acra_base.specs.Known.{IsAtEnd}
 use Rattle.pg_wire.specs.declared.frame.MessageFault.{MessageFault}
 use Rattle.pg_wire.specs.declared.frame.MessageFault.TheVariants as message
+use Rattle.pg_wire.specs.declared.frame.FrameFault.{FrameFault}
+use Rattle.pg_wire.specs.declared.frame.Side.TheVariants as side
+use Rattle.pg_wire.specs.Frames.{HasFault}
 use Rattle.pg_wire.specs.Fronts.{front_kind, front_body}
 use Rattle.table_machine.specs.declared.cell.Cell.{Cell}
-use Rattle.plain_tables.specs.Requests.{Request, Phase, phase_after_all, IsSaid, AreSaid, message_of, request_bytes, stream_of, NoRequest, Splits}
-use Rattle.lab_core.specs.Cells.{Keys}
-use Rattle.lab_core.specs.Runs.{started, answers}
-use Rattle.lab_core.specs.Words.{IsSession, number_of, client_drawn}
-use Rattle.lab_core.specs.Session.{Ran, MayBegin, may_begin}
-use Rattle.lab_core.specs.Headline.{WhereTold, replies_to, IsOver, AllAnswered, AnsweredTo, AnsweredRead, AnsweredSpent, AnsweredFront, Headline, Due, IsDue, Untouched}
-use Rattle.lab_core.specs.declared.status.Status.{Status}
-use Rattle.lab_core.specs.declared.status.Status.TheVariants as ends
-use Rattle.lab_core.proofs.OneStream.{one_stream}
-use Rattle.lab_core.proofs.Relayed.{frame_not_empty}
-use Rattle.lab_core.proofs.Steps.{stream_more, length_zero}
+use Rattle.plain_tables.specs.Requests.{Request, Phase, phase_after_all, is_opening, IsSaid, AreSaid, message_of, request_bytes, stream_of, NoRequest, Splits, message_limit}
+use Rattle.plain_tables.specs.BadMessages.{IsBad, IsCut}
+use Rattle.plain_tables.proofs.Requested.{said_frame}
+use Rattle.plain_tables.proofs.Faulty.{bad_stays, bad_says_nothing}
+use Rattle.lab_session.specs.Cells.{Keys}
+use Rattle.lab_session.specs.Runs.{started, answers}
+use Rattle.lab_core.specs.Words.{IsSession, number_of}
+use Rattle.lab_session.specs.ClientKey.{client_drawn}
+use Rattle.lab_session.specs.Session.{Ran, MayBegin, may_begin}
+use Rattle.lab_core.specs.Headline.{WhereTold, replies_to, IsOver, AllAnswered, AnsweredTo, AnsweredCut, AnsweredRead, AnsweredSpent, AnsweredFront, Headline, Due, IsDue, Untouched}
+use Rattle.lab_session.specs.declared.status.Status.{Status}
+use Rattle.lab_session.specs.declared.status.Status.TheVariants as ends
+use Rattle.plain_tables.proofs.OneStream.{one_stream}
+use Rattle.lab_session.proofs.Relayed.{frame_not_empty}
+use Rattle.lab_session.proofs.Steps.{stream_more, length_zero}
 
 -- ---- where no request begins
 
@@ -26,12 +34,29 @@ nothing : (p : Phase) (bytes : List ℕ) → bytes ≡ [] → NoRequest p bytes
 nothing p bytes none r rest is e = frame_not_empty (front_kind (message_of r)) (front_body (message_of r)) rest (sym e ∙ none)
 
 over_says_nothing : (r : Request) → IsSaid Phase.Over r → ⊥
+over_says_nothing (Request.Encrypts how) h = absurd h
 over_says_nothing (Request.Opens params) h = absurd h
 over_says_nothing (Request.Asks text tree) h = absurd h
+over_says_nothing (Request.Refused text) h = absurd h
 over_says_nothing Request.Leaves h = absurd h
 
 over : (p : Phase) (bytes : List ℕ) → p ≡ Phase.Over → NoRequest p bytes
 over p bytes e r rest is same = over_says_nothing r (subst (λ (q : Phase). IsSaid q r) e is)
+
+faulty_not_empty : (opening : Bool) (left : List ℕ) (fault : FrameFault) → HasFault side.Client message_limit opening left fault → left ≢ []
+faulty_not_empty true left fault h e = absurd (omega (arith, h.1.0, ap length e))
+faulty_not_empty false left fault h e = subst (λ (xs : List ℕ). HasFault side.Client message_limit false xs fault) e h
+
+-- what is bad is not nothing
+bad_not_empty : (p : Phase) (bytes : List ℕ) (kind : MessageFault) → IsBad p bytes kind → bytes ≢ []
+bad_not_empty p bytes (message.Frame fault) h e = faulty_not_empty (is_opening p) bytes fault h e
+bad_not_empty p bytes message.Body h e = frame_not_empty h.0 h.1 h.2.rest (sym h.2.front ∙ e)
+bad_not_empty p bytes message.Place h e = frame_not_empty (front_kind h.0) (front_body h.0) h.2.rest (sym h.2.front ∙ e)
+bad_not_empty p bytes message.Batch h e = absurd h
+bad_not_empty p bytes message.Shape h e = absurd h
+
+cut_says_nothing : (p : Phase) (bytes : List ℕ) → IsCut p bytes → NoRequest p bytes
+cut_says_nothing p bytes c r rest is e = c.unfinished.no_frame (front_kind (message_of r)) (front_body (message_of r)) rest (said_frame p r is) e
 
 -- ---- ends that begin nothing
 
@@ -87,13 +112,38 @@ module _ (name : List ℕ) (seed : ℕ) (client unread before after : List ℕ) 
       let last : NoRequest (phase_after_all Phase.Opening answered) (rest ++ unread) = elim is_over [ inl h ↦ nothing (phase_after_all Phase.Opening answered) (rest ++ unread) h | inr h ↦ over (phase_after_all Phase.Opening answered) (rest ++ unread) h ] in
       record { requests = answered; rest = rest ++ unread; parts = record { whole = w.whole; each = w.each; last = last }; over = is_over; sent = w.sent }
 
-  bad : (offset : ℕ) (kind : MessageFault) (answered begun : List Request) (rest : List ℕ) → Run (ends.BadClient offset kind) answered begun rest → Headline name seed (ends.BadClient offset kind) client unread before after
+  bad : (offset : ℕ) (kind : MessageFault) (answered begun : List Request) (rest : List ℕ) → Run (ends.BadClient offset kind) answered begun rest → AnsweredTo name seed offset kind client before after
   bad offset kind answered begun rest r =
       let w : All answered rest = whole _ _ client unread before after tables (ends.BadClient offset kind) answered begun rest refl r in
-      let none = r.why.3 unread refl in
-      let left : IsOver answered (rest ++ unread) → ⊥ = λ o. elim o [ inl h ↦ none.1 h | inr h ↦ r.why.2 h ] in
-      subst (λ (k : MessageFault). Headline name seed (ends.BadClient offset k) client unread before after) (sym r.why.0)
-      (record { requests = answered; rest = rest ++ unread; parts = record { whole = w.whole; each = w.each; last = none.0 }; left = left; place = r.why.1; sent = w.sent })
+      let here : IsBad (phase_after_all Phase.Opening answered) (rest ++ unread) kind = bad_stays (phase_after_all Phase.Opening answered) rest unread kind r.why.2 in
+      record {
+        requests = answered;
+        rest = rest ++ unread;
+        parts = record { whole = w.whole; each = w.each; last = bad_says_nothing (phase_after_all Phase.Opening answered) (rest ++ unread) kind here };
+        left = λ o. elim o [ inl h ↦ bad_not_empty (phase_after_all Phase.Opening answered) (rest ++ unread) kind here h | inr h ↦ r.why.1 h ];
+        bad = here;
+        place = r.why.0;
+        sent = w.sent;
+      }
+
+  -- an input that ended was read to its end
+  no_more : (ended : IsAtEnd (Some unread)) (rest : List ℕ) → rest ++ unread ≡ rest
+  no_more ended rest = ap (λ (xs : List ℕ). rest ++ xs) ended ∙ append-nil rest
+
+  cut_off : (offset : ℕ) (answered begun : List Request) (rest : List ℕ) → Run (ends.ClientCut offset) answered begun rest → AnsweredCut name seed offset client before after
+  cut_off offset answered begun rest r =
+      let w : All answered rest = whole _ _ client unread before after tables (ends.ClientCut offset) answered begun rest refl r in
+      let same = no_more r.why.3 rest in
+      let parts : client ≡ stream_of answered rest = w.whole ∙ ap (stream_of answered) same in
+      record {
+        requests = answered;
+        rest = rest;
+        parts = record { whole = parts; each = w.each; last = cut_says_nothing (phase_after_all Phase.Opening answered) rest r.why.2 };
+        left = λ o. elim o [ inl h ↦ r.why.2.some h | inr h ↦ r.why.1 h ];
+        cut = r.why.2;
+        place = r.why.0 ∙ sym (ap length parts);
+        sent = w.sent;
+      }
 
   read : (status : Status) (answered begun : List Request) (rest : List ℕ) → may_begin status ≡ false → Run status answered begun rest → AnsweredRead name seed client unread before after
   read status answered begun rest may r =
@@ -125,6 +175,7 @@ module _ (name : List ℕ) (seed : ℕ) (client unread before after : List ℕ) 
   told : (status : Status) (answered begun : List Request) (rest : List ℕ) → Run status answered begun rest → Headline name seed status client unread before after
   told ends.Done answered begun rest r = done answered begun rest r
   told (ends.BadClient offset kind) answered begun rest r = bad offset kind answered begun rest r
+  told (ends.ClientCut offset) answered begun rest r = cut_off offset answered begun rest r
   told ends.Usage answered begun rest r = absurd r.why
   told ends.ReadFault answered begun rest r = read ends.ReadFault answered begun rest refl r
   told ends.Spent answered begun rest r = spent answered begun rest r
@@ -141,24 +192,32 @@ module _ (name : List ℕ) (seed : ℕ) (client unread before after : List ℕ) 
         h.sent ∙ ap (λ (rs : List Request). before ++ replies_to name seed rs) e.0,
       )
 
-  due_bad : (offset : ℕ) (kind : MessageFault) → AnsweredTo name seed offset client before after → (requests : List Request) (rest : List ℕ) → Splits client requests rest → Due name seed (ends.BadClient offset kind) requests rest before after
+  -- the requests and the rest are those of any split
+  left_is : (h_requests requests : List Request) (h_rest rest : List ℕ) → h_requests ≡ requests → h_rest ≡ rest → (IsOver h_requests h_rest → ⊥) → IsOver requests rest → ⊥
+  left_is h_requests requests h_rest rest er ex left o = left (subst (λ (xs : List ℕ). IsOver h_requests xs) (sym ex) (subst (λ (rs : List Request). IsOver rs rest) (sym er) o))
+
+  due_bad : (offset : ℕ) (kind : MessageFault) → AnsweredTo name seed offset kind client before after → (requests : List Request) (rest : List ℕ) → Splits client requests rest → Due name seed (ends.BadClient offset kind) requests rest before after
   due_bad offset kind h requests rest s =
       let e = one_stream client h.rest rest h.requests requests h.parts s in (
-        λ o. h.left (subst (λ (xs : List ℕ). IsOver h.requests xs) (sym e.1) (subst (λ (rs : List Request). IsOver rs rest) (sym e.0) o)),
+        left_is h.requests requests h.rest rest e.0 e.1 h.left,
+        subst (λ (xs : List ℕ). IsBad (phase_after_all Phase.Opening requests) xs kind) e.1 (subst (λ (rs : List Request). IsBad (phase_after_all Phase.Opening rs) h.rest kind) e.0 h.bad),
         h.place ∙ ap (λ (rs : List Request). length (flat_map request_bytes rs)) e.0,
         h.sent ∙ ap (λ (rs : List Request). before ++ replies_to name seed rs) e.0,
       )
 
-  in_place : (offset : ℕ) (kind : MessageFault) → Headline name seed (ends.BadClient offset kind) client unread before after → AnsweredTo name seed offset client before after
-  in_place offset message.Place h = h
-  in_place offset (message.Frame fault) h = absurd h
-  in_place offset message.Body h = absurd h
-  in_place offset message.Batch h = absurd h
-  in_place offset message.Shape h = absurd h
+  due_cut : (offset : ℕ) → AnsweredCut name seed offset client before after → (requests : List Request) (rest : List ℕ) → Splits client requests rest → Due name seed (ends.ClientCut offset) requests rest before after
+  due_cut offset h requests rest s =
+      let e = one_stream client h.rest rest h.requests requests h.parts s in (
+        left_is h.requests requests h.rest rest e.0 e.1 h.left,
+        subst (λ (xs : List ℕ). IsCut (phase_after_all Phase.Opening requests) xs) e.1 (subst (λ (rs : List Request). IsCut (phase_after_all Phase.Opening rs) h.rest) e.0 h.cut),
+        h.place ∙ ap length s.whole,
+        h.sent ∙ ap (λ (rs : List Request). before ++ replies_to name seed rs) e.0,
+      )
 
   is_due : (status : Status) → Headline name seed status client unread before after → IsDue name seed status client unread before after
   is_due ends.Done h requests rest s = due_done h requests rest s
-  is_due (ends.BadClient offset kind) h requests rest s = due_bad offset kind (in_place offset kind h) requests rest s
+  is_due (ends.BadClient offset kind) h requests rest s = due_bad offset kind h requests rest s
+  is_due (ends.ClientCut offset) h requests rest s = due_cut offset h requests rest s
   is_due ends.Usage h requests rest s = tt
   is_due ends.ReadFault h requests rest s = tt
   is_due ends.Spent h requests rest s = tt

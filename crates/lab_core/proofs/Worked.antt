@@ -15,7 +15,7 @@ use Rattle.table_machine.proofs.Texts.{IsText-from_test}
 use Rattle.plain_tables.specs.Requests.{Request, Phase, IsSaid, IsAsked, AreSaid, NoRequest, Splits}
 use Rattle.plain_tables.specs.Reply.{reply_bytes}
 use Rattle.lab_core.specs.Headline.{IsOver}
-use Rattle.lab_core.specs.Runs.{started, answers}
+use Rattle.lab_session.specs.Runs.{started, answers}
 use Rattle.lab_core.specs.Example.{user_app, insert_text, insert_tree, select_text, select_tree, example_requests, example_input, example_reply}
 
 -- the digits of 1, which no definition here computes

@@ -1,13 +1,14 @@
 -- The headline: what a client is sent, by the bytes that it sent.
 use Rattle.std.specs.Prelude.{ℕ, ◌≡◌, ◌≢◌, ◌+◌, ◌^◌, ◌≤◌, ◌⊎◌, Option, None, Some, List, [], ◌∷◌, ◌++◌, length}
 use Rattle.std.specs.List.{flat_map}
-use Rattle.pg_wire.specs.declared.frame.MessageFault.TheVariants as message
+use Rattle.pg_wire.specs.declared.frame.MessageFault.{MessageFault}
 use Rattle.plain_tables.specs.Requests.{Request, Phase, phase_after_all, AreSaid, request_bytes, stream_of, Splits}
-use Rattle.lab_core.specs.Cells.{Keys}
-use Rattle.lab_core.specs.Runs.{started, answers}
-use Rattle.lab_core.specs.Words.{client_drawn}
-use Rattle.lab_core.specs.declared.status.Status.{Status}
-use Rattle.lab_core.specs.declared.status.Status.TheVariants as ends
+use Rattle.plain_tables.specs.BadMessages.{IsBad, IsCut}
+use Rattle.lab_session.specs.Cells.{Keys}
+use Rattle.lab_session.specs.Runs.{started, answers}
+use Rattle.lab_session.specs.ClientKey.{client_drawn}
+use Rattle.lab_session.specs.declared.status.Status.{Status}
+use Rattle.lab_session.specs.declared.status.Status.TheVariants as ends
 
 -- where a source and a sink tell their content before and after
 abbrev pub WhereTold : Option (List ℕ) → Option (List ℕ) → Option (List ℕ) → Option (List ℕ) → (List ℕ → List ℕ → List ℕ → List ℕ → Type 0) → Type 0
@@ -31,13 +32,24 @@ module _ (name : List ℕ) (seed : ℕ) where
     pub over : IsOver requests rest
     pub sent : after ≡ before ++ replies_to name seed requests
 
-  -- what is left at this offset begins with no request in its place: those before it are answered
-  pub record AnsweredTo (offset : ℕ) (client before after : List ℕ) : Type 0 where
+  -- a bad message stands at this offset: the requests before it are answered
+  pub record AnsweredTo (offset : ℕ) (kind : MessageFault) (client before after : List ℕ) : Type 0 where
     pub requests : List Request
     pub rest : List ℕ
     pub parts : Splits client requests rest
     pub left : IsOver requests rest → ⊥
+    pub bad : IsBad (phase_after_all Phase.Opening requests) rest kind
     pub place : offset ≡ length (flat_map request_bytes requests)
+    pub sent : after ≡ before ++ replies_to name seed requests
+
+  -- the input ends at this offset, inside a message: the requests before it are answered
+  pub record AnsweredCut (offset : ℕ) (client before after : List ℕ) : Type 0 where
+    pub requests : List Request
+    pub rest : List ℕ
+    pub parts : Splits client requests rest
+    pub left : IsOver requests rest → ⊥
+    pub cut : IsCut (phase_after_all Phase.Opening requests) rest
+    pub place : offset ≡ length client
     pub sent : after ≡ before ++ replies_to name seed requests
 
   -- the requests from the front on are answered, each of them whole
@@ -69,8 +81,8 @@ module _ (name : List ℕ) (seed : ℕ) where
 
   abbrev pub Headline : Status → List ℕ → List ℕ → List ℕ → List ℕ → Type 0
   Headline ends.Done client unread before after = AllAnswered client before after
-  Headline (ends.BadClient offset message.Place) client unread before after = AnsweredTo offset client before after
-  Headline (ends.BadClient offset kind) client unread before after = ⊥
+  Headline (ends.BadClient offset kind) client unread before after = AnsweredTo offset kind client before after
+  Headline (ends.ClientCut offset) client unread before after = AnsweredCut offset client before after
   Headline ends.Usage client unread before after = ⊥
   Headline ends.ReadFault client unread before after = AnsweredRead client unread before after
   Headline ends.Spent client unread before after = AnsweredSpent client unread before after
@@ -80,7 +92,10 @@ module _ (name : List ℕ) (seed : ℕ) where
   -- what is due, where the input is these requests and then what begins with none
   abbrev pub Due : Status → List Request → List ℕ → List ℕ → List ℕ → Type 0
   Due ends.Done requests rest before after = IsOver requests rest × (after ≡ before ++ replies_to name seed requests)
-  Due (ends.BadClient offset kind) requests rest before after = (IsOver requests rest → ⊥) × (offset ≡ length (flat_map request_bytes requests)) × (after ≡ before ++ replies_to name seed requests)
+  Due (ends.BadClient offset kind) requests rest before after =
+      (IsOver requests rest → ⊥) × IsBad (phase_after_all Phase.Opening requests) rest kind × (offset ≡ length (flat_map request_bytes requests)) × (after ≡ before ++ replies_to name seed requests)
+  Due (ends.ClientCut offset) requests rest before after =
+      (IsOver requests rest → ⊥) × IsCut (phase_after_all Phase.Opening requests) rest × (offset ≡ length (stream_of requests rest)) × (after ≡ before ++ replies_to name seed requests)
   Due status requests rest before after = Unit {0}
 
   abbrev pub IsDue : Status → List ℕ → List ℕ → List ℕ → List ℕ → Type 0

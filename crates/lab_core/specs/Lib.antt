@@ -1,11 +1,3 @@
-pub mod Containers
 pub mod Words
-pub mod Codes
-pub mod Cells
-pub mod Runs
-pub mod Session
 pub mod Headline
-pub mod Relaying
-pub mod Understood
-pub mod Answering
 pub mod Example

@@ -3,10 +3,9 @@ ghost use Rattle.acra_base.specs.Causes.{Rose};
 ghost use Rattle.lab_core.specs.Words.{IsSession};
 ghost use Rattle.lab_core.specs.Headline.{WhereTold, Headline, IsDue, Untouched};
 
-use crate::session::first_session;
-use crate::status::Status;
-use crate::words::{client_key, session_words};
+use crate::words::session_words;
 use acra_base::{Sink, Source};
+use lab_session::{Status, client_key, first_session};
 use std::alloc::Global;
 use table_machine::{LabBackend, Tables};
 

@@ -1,7 +1,7 @@
-ghost use Rattle.std.specs.Prelude.{◌≡◌, ℕ, List, map, string_bytes, MatchOption, take};
-ghost use Rattle.lab_core.specs.Words.{IsSession, number_of, client_drawn};
+ghost use Rattle.std.specs.Prelude.{◌≡◌, ℕ, List, map, string_bytes, MatchOption};
+ghost use Rattle.lab_core.specs.Words.{IsSession, number_of};
 
-use acra_base::{ClientId, SureRandom};
+use acra_base::ClientId;
 
 /// The number that 1 to 20 decimal digits spell, where it is below 2^64.
 fn read_number(text: &[u8]) -> Option<u64>
@@ -43,25 +43,4 @@ pub fn session_words(words: &[String]) -> Option<(ClientId, u64)>
             Some(seed) => Some((client, seed)),
         },
     }
-}
-
-fn first_half(drawn: &[u8; 64]) -> [u8; 32]
-    ensures { result ≡ take 32 drawn.now }
-{
-    let mut key = [0; 32];
-    key.copy_from_slice(&drawn[..32]);
-    key
-}
-
-/// The client's key, and the generator after it: the ring draws 96 bytes, and then the client 64, whose
-/// first 32 are its key.
-pub fn client_key(seed: u64) -> ([u8; 32], SureRandom)
-    ensures { (result.0, result.1) ≡ client_drawn seed }
-{
-    let mut random = SureRandom::new(seed);
-    let mut ring = [0; 96];
-    random.fill(&mut ring);
-    let mut drawn = [0; 64];
-    random.fill(&mut drawn);
-    (first_half(&drawn), random)
 }

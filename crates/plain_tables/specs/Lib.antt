@@ -1,4 +1,6 @@
 pub mod Requests
+pub mod BadMessages
+pub mod Refusals
 pub mod Plain
 pub mod Reply
 pub mod Rewritten

@@ -8,18 +8,21 @@ use Rattle.table_machine.specs.Machine.{outcome_of, rows_after}
 use Rattle.table_machine.specs.Replies.{messages_of, startup_messages, ready}
 use Rattle.plain_tables.specs.Requests.{Request}
 use Rattle.plain_tables.specs.Plain.{PlainCell, plain, plain_action}
+use Rattle.plain_tables.specs.Refusals.{not_in_profile}
 
--- the messages: those of the backend's startup for this session, those of the statement on the plaintext tables, none at the end
-abbrev pub reply : List ℕ → ℕ → Request → List (List PlainCell) → List Back
-reply client session (Request.Opens params) rows = startup_messages session
-reply client session (Request.Asks text tree) rows = messages_of (outcome_of (plain client) (plain_action client [] tree) rows) ++ ready ∷ []
+abbrev pub reply_bytes : List Back → List ℕ
+reply_bytes messages = flat_map back_frame messages
+
+-- the byte N declines encryption; the startup is answered by the backend's messages for this session, a statement by
+-- those of the plaintext tables, a text that asks none by a refusal; the end has no reply
+abbrev pub reply : List ℕ → ℕ → Request → List (List PlainCell) → List ℕ
+reply client session (Request.Encrypts how) rows = 78 ∷ []
+reply client session (Request.Opens params) rows = reply_bytes (startup_messages session)
+reply client session (Request.Asks text tree) rows = reply_bytes (messages_of (outcome_of (plain client) (plain_action client [] tree) rows) ++ ready ∷ [])
+reply client session (Request.Refused text) rows = reply_bytes (not_in_profile ∷ ready ∷ [])
 reply client session Request.Leaves rows = []
 
 -- the plaintext tables then, where these bytes are stored for a written value
 abbrev pub rows_then : List ℕ → List ℕ → Request → List (List PlainCell) → List (List PlainCell)
-rows_then client stored (Request.Opens params) rows = rows
 rows_then client stored (Request.Asks text tree) rows = rows_after (plain_action client stored tree) rows
-rows_then client stored Request.Leaves rows = rows
-
-abbrev pub reply_bytes : List Back → List ℕ
-reply_bytes messages = flat_map back_frame messages
+rows_then client stored request rows = rows

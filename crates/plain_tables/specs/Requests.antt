@@ -1,27 +1,37 @@
 -- What a client asks, and the stream of bytes that it sends.
-use Rattle.std.specs.Prelude.{ℕ, ◌≡◌, ◌^◌, ◌≤◌, nat_le, Bool, true, List, [], ◌∷◌, ◌++◌, length}
+use Rattle.std.specs.Prelude.{ℕ, ◌≡◌, ◌^◌, ◌≤◌, nat_le, Bool, true, false, List, [], ◌∷◌, ◌++◌, length}
 use Rattle.std.specs.List.{flat_map, list_all}
 use Rattle.pg_wire.specs.declared.front.Pair.{Pair}
 use Rattle.pg_wire.specs.declared.front.Front.{Front}
 use Rattle.pg_wire.specs.declared.front.Front.TheVariants as fronts
 use Rattle.pg_wire.specs.declared.frame.Side.TheVariants as side
 use Rattle.pg_wire.specs.Frames.{IsFrame}
-use Rattle.pg_wire.specs.Fronts.{IsText, IsFront, front_kind, front_body, front_frame}
+use Rattle.pg_wire.specs.Fronts.{IsText, str, IsFront, front_kind, front_body, front_frame}
 use Rattle.sql_profile.specs.declared.statement.Operand.{Operand}
 use Rattle.sql_profile.specs.declared.statement.Operand.TheVariants as operand
 use Rattle.sql_profile.specs.declared.statement.Statement.{Statement}
 use Rattle.sql_profile.specs.declared.statement.Statement.TheVariants as statement
 use Rattle.sql_profile.specs.Grammar.{Spells}
+use Rattle.plain_tables.specs.declared.encryption.Encryption.{Encryption}
+use Rattle.plain_tables.specs.declared.encryption.Encryption.TheVariants as encryption
 
--- a startup message, a text with the statement that it spells, the end
+-- a request for encryption, a startup message, a text with the statement that it spells, a text that spells none, the end
 pub data Request : Type 0 where
+  Encrypts : Encryption → Request
   Opens : List Pair → Request
   Asks : (text : List ℕ) (tree : Statement) → Request
+  Refused : (text : List ℕ) → Request
   Leaves : Request
 
+abbrev pub asking : Encryption → Front
+asking encryption.Tls = fronts.SslRequest
+asking encryption.Gss = fronts.GssRequest
+
 abbrev pub message_of : Request → Front
+message_of (Request.Encrypts how) = asking how
 message_of (Request.Opens params) = fronts.Startup params
 message_of (Request.Asks text tree) = fronts.Query text
+message_of (Request.Refused text) = fronts.Query text
 message_of Request.Leaves = fronts.Terminate
 
 -- before the startup message, after it, after the end
@@ -31,9 +41,17 @@ pub data Phase : Type 0 where
   Over : Phase
 
 abbrev pub phase_after : Phase → Request → Phase
+phase_after phase (Request.Encrypts how) = phase
 phase_after phase (Request.Opens params) = Phase.Serving
 phase_after phase (Request.Asks text tree) = phase
+phase_after phase (Request.Refused text) = phase
 phase_after phase Request.Leaves = Phase.Over
+
+-- whether a startup packet is awaited
+abbrev pub is_opening : Phase → Bool
+is_opening Phase.Opening = true
+is_opening Phase.Serving = false
+is_opening Phase.Over = false
 
 -- ---- limits
 
@@ -64,10 +82,18 @@ pub record IsAsked (text : List ℕ) (tree : Statement) : Type 0 where
   pub spelled : Spells text tree
   pub strings : has_short_strings tree ≡ true
 
+-- a text within a message's length that asks no statement
+pub record IsRefused (text : List ℕ) : Type 0 where
+  pub no_zero : IsText text
+  pub framed : IsFrame side.Client message_limit false 81 (str text)
+  pub none : (tree : Statement) → IsAsked text tree → ⊥
+
 -- a request in its place
 abbrev pub IsSaid : Phase → Request → Type 0
+IsSaid Phase.Opening (Request.Encrypts how) = Unit {0}
 IsSaid Phase.Opening (Request.Opens params) = IsFront (fronts.Startup params) × IsFrame side.Client message_limit true 0 (front_body (fronts.Startup params))
 IsSaid Phase.Serving (Request.Asks text tree) = IsAsked text tree
+IsSaid Phase.Serving (Request.Refused text) = IsRefused text
 IsSaid Phase.Serving Request.Leaves = Unit {0}
 IsSaid _ _ = ⊥
 

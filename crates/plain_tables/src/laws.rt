@@ -1,3 +1,7 @@
+ghost use Rattle.std.specs.Prelude.{◌≡◌, ◌++◌, ℕ, List};
+ghost use Rattle.pg_wire.specs.declared.frame.MessageFault.{MessageFault};
+ghost use Rattle.plain_tables.specs.Requests.{Phase, Request, NoRequest, Splits};
+ghost use Rattle.plain_tables.specs.BadMessages.{IsBad, IsCut};
 ghost use Rattle.plain_tables.specs.Laws.{RowsStand, RepliesStand};
 
 /// Stored tables still stand for the plaintext tables after a statement.
@@ -8,4 +12,17 @@ pub fn tables_still_stand()
 /// What the owner is shown of the stored tables is what the plaintext tables reply.
 pub fn replies_stand()
     ensures { RepliesStand }
+{}
+
+/// A bad message has one fault, which stays whatever comes. It is no request, and not the front of one.
+pub fn bad_messages()
+    ensures one { (phase : Phase) (bytes : List ℕ) (f g : MessageFault) → IsBad phase bytes f → IsBad phase bytes g → f ≡ g }
+    ensures stays { (phase : Phase) (bytes more : List ℕ) (f : MessageFault) → IsBad phase bytes f → IsBad phase (bytes ++ more) f }
+    ensures no_request { (phase : Phase) (bytes : List ℕ) (f : MessageFault) → IsBad phase bytes f → NoRequest phase bytes }
+    ensures uncut { (phase : Phase) (bytes : List ℕ) (f : MessageFault) → IsBad phase bytes f → IsCut phase bytes → ⊥ }
+{}
+
+/// A stream is split into requests in one way.
+pub fn one_split()
+    ensures one { (client x y : List ℕ) (rs qs : List Request) → Splits client rs x → Splits client qs y → (rs ≡ qs) × (x ≡ y) }
 {}

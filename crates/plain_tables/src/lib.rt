@@ -3,6 +3,8 @@
 //! stored tables stand for which plaintext tables.
 #![tactic(auto)]
 
+mod encryption;
 mod laws;
 
-pub use laws::{replies_stand, tables_still_stand};
+pub use encryption::Encryption;
+pub use laws::{bad_messages, one_split, replies_stand, tables_still_stand};

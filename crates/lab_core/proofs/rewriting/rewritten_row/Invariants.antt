@@ -1,6 +1,0 @@
-use Rattle.std.proofs.Common.{◌≡◌, map, take}
-use Rattle.plain_tables.specs.Rewritten.{rewritten_value}
-use Rattle.lab_core.proofs.rewriting.rewritten_row.Given as goal
-
-abbrev pub invariant-values : goal.invariant-values
-invariant-values l = l.row ≡ map (rewritten_value l.cell) (take l.value-index l.values)

@@ -1,6 +1,0 @@
-use Rattle.std.proofs.Common.{◌≡◌, map, take}
-use Rattle.plain_tables.specs.Rewritten.{rewritten_value}
-use Rattle.lab_core.proofs.rewriting.rewritten_rows.Given as goal
-
-abbrev pub invariant-rows : goal.invariant-rows
-invariant-rows l = l.new ≡ map (map (rewritten_value l.cell)) (take l.row-index l.rows)

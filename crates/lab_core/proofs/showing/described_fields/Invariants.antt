@@ -1,6 +1,0 @@
-use Rattle.std.proofs.Common.{◌≡◌, ◌++◌, drop}
-use Rattle.plain_tables.specs.Shown.{described}
-use Rattle.lab_core.proofs.showing.described_fields.Given as goal
-
-abbrev pub invariant-fields : goal.invariant-fields
-invariant-fields l = l.shown ++ described (drop l.place l.protected) (drop l.place l.fields) ≡ described l.protected l.fields

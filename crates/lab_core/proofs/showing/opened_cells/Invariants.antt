@@ -1,9 +1,0 @@
-use Rattle.std.proofs.Common.{◌≡◌, ◌++◌, drop}
-use Rattle.plain_tables.specs.Shown.{shown_cells}
-use Rattle.lab_core.specs.Cells.{opened_text}
-use Rattle.lab_core.proofs.showing.opened_cells.Given as goal
-
-abbrev pub invariant-cells : goal.invariant-cells
-invariant-cells l =
-    let opened = opened_text (record { client = l.client; key = l.key }) in
-    l.shown ++ shown_cells opened (drop l.place l.protected) (drop l.place l.cells) ≡ shown_cells opened l.protected l.cells

@@ -1,0 +1,13 @@
+pub mod Packing
+pub mod Protecting
+pub mod Opened
+pub mod Sending
+pub mod Showable
+pub mod Relayed
+pub mod Saying
+pub mod Steps
+pub mod Forwarded
+pub mod Drawing
+pub mod Meant
+pub mod Positive
+pub mod AnswerLaws

@@ -1,0 +1,68 @@
+-- What a session writes, request by request: the plaintext tables, the cells made for its values, and its replies.
+use Rattle.std.specs.Prelude.{ℕ, List, [], ◌∷◌, ◌++◌, Option, Some, None}
+use Rattle.rand_chacha.specs.ChaCha.{ChaCha}
+use Rattle.acra_base.specs.Draws.{drawn}
+use Rattle.sql_profile.specs.declared.statement.Operand.{Operand}
+use Rattle.sql_profile.specs.declared.statement.Operand.TheVariants as operand
+use Rattle.sql_profile.specs.declared.statement.Statement.{Statement}
+use Rattle.sql_profile.specs.declared.statement.Statement.TheVariants as statement
+use Rattle.plain_tables.specs.Requests.{Request}
+use Rattle.plain_tables.specs.Plain.{PlainCell}
+use Rattle.plain_tables.specs.Reply.{reply, rows_then}
+use Rattle.lab_session.specs.Cells.{Keys, sealed_cell}
+
+-- the string that a statement writes
+abbrev pub written_values : List Operand → Option (List ℕ)
+written_values (number ∷ operand.Text text ∷ []) = Some text
+written_values values = None
+
+abbrev pub written_rows : List (List Operand) → Option (List ℕ)
+written_rows (row ∷ []) = written_values row
+written_rows rows = None
+
+abbrev pub written : Statement → Option (List ℕ)
+written (statement.Select table items) = None
+written (statement.Insert table columns rows) = written_rows rows
+
+-- the cell of a written string takes the next 56 bytes
+abbrev pub cell_for : Keys → ChaCha → Option (List ℕ) → List ℕ
+cell_for keys g None = []
+cell_for keys g (Some plain) = sealed_cell keys (drawn 56 g).0 plain
+
+abbrev pub drawn_for : ChaCha → Option (List ℕ) → ChaCha
+drawn_for g None = g
+drawn_for g (Some plain) = (drawn 56 g).1
+
+abbrev pub written_by : Request → Option (List ℕ)
+written_by (Request.Asks text tree) = written tree
+written_by request = None
+
+-- ---- a run
+
+-- the plaintext tables, and the generator of the drawn bytes
+pub record State : Type 0 where
+  pub rows : List (List PlainCell)
+  pub coming : ChaCha
+
+-- empty tables
+abbrev pub started : ChaCha → State
+started g = record { rows = []; coming = g }
+
+abbrev pub state_after : Keys → State → Request → State
+state_after keys s request = record {
+  rows = rows_then keys.client (cell_for keys s.coming (written_by request)) request s.rows;
+  coming = drawn_for s.coming (written_by request);
+}
+
+abbrev pub state_after_all : Keys → State → List Request → State
+state_after_all keys s [] = s
+state_after_all keys s (request ∷ requests) = state_after_all keys (state_after keys s request) requests
+
+-- the reply to a request of session 1
+abbrev pub answer : Keys → State → Request → List ℕ
+answer keys s request = reply keys.client 1 request s.rows
+
+-- the replies to the requests, one after the other
+abbrev pub answers : Keys → State → List Request → List ℕ
+answers keys s [] = []
+answers keys s (request ∷ requests) = answer keys s request ++ answers keys (state_after keys s request) requests

@@ -1,0 +1,101 @@
+ghost use Rattle.std.specs.Prelude.{◌≡◌, ◌≤◌, ℕ, List, [], ◌∷◌, IsErrOf};
+ghost use Rattle.acra_base.specs.Causes.{Rose};
+ghost use Rattle.sql_profile.specs.Tree.{IsStatement};
+ghost use Rattle.table_machine.specs.Replies.{ready};
+ghost use Rattle.plain_tables.specs.Reply.{reply_bytes};
+ghost use Rattle.plain_tables.specs.Refusals.{not_in_profile};
+ghost use Rattle.lab_session.specs.Session.{Rests};
+ghost use Rattle.lab_session.specs.Relaying.{IsIdle, Sends};
+ghost use Rattle.lab_session.specs.Runs.{State};
+ghost use Rattle.lab_session.specs.Answering.{CanAnswer, AnswerGives, request_of};
+ghost use Rattle.lab_session.specs.declared.said.Said.TheVariants as said_as;
+
+use crate::forward::forward;
+use crate::planning::plan_for;
+use crate::said::Said;
+use crate::send::send;
+use crate::stop::Stop;
+use acra_base::{ClientId, Sink, SureRandom};
+use pg_wire::Front;
+use sql_profile::Statement;
+use std::alloc::Global;
+use table_machine::{LabBackend, write_error, write_ready};
+
+/// The SQLSTATE code feature_not_supported, and the text that goes with it.
+const UNSUPPORTED: &[u8; 5] = b"0A000";
+
+const NOT_IN_PROFILE: &[u8] = b"AcraServer: statement not in the profile";
+
+// Sends a statement on with its string sealed, and shows the reply.
+fn answer_statement<K: Sink>(
+    alloc: Global,
+    client: &ClientId,
+    key: &[u8; 32],
+    random: &mut SureRandom,
+    backend: &mut LabBackend,
+    output: &mut K,
+    tree: Statement,
+) -> Result<(), Stop>
+    requires idle { IsIdle backend.old }
+    requires can { CanAnswer backend.old.stream.opening (said_as.Asks tree) }
+    ensures gives { (s : State) (text : List ℕ) → Rests (record { client = client.now; key = key.now }) backend.old s backend.old.stream.opening → random.old ≡ s.coming
+        → AnswerGives (record { client = client.now; key = key.now }) backend.old.stream.opening s (request_of text (said_as.Asks tree)) result random.new backend.new (K.held output.old) (K.held output.new) }
+    ensures later { K.write_faults output.old ≤ K.write_faults output.new }
+    ensures fault { IsErrOf result Stop.WriteFault → Rose (K.write_faults output.old) (K.write_faults output.new) }
+    ensures no_read { IsErrOf result Stop.ReadFault → ⊥ }
+{
+    match plan_for(alloc, client, key, random, tree) {
+        Err(_) => Err(Stop::NoMemory),
+        Ok(plan) => forward(
+            alloc,
+            client,
+            key,
+            backend,
+            output,
+            &plan.request,
+            &plan.protected,
+        ),
+    }
+}
+
+// Refuses a text that asks no statement.
+fn refuse<K: Sink>(alloc: Global, output: &mut K) -> Result<(), Stop>
+    ensures sent { Sends (K.held output.old) (K.held output.new) result (reply_bytes (not_in_profile ∷ ready ∷ [])) }
+    ensures later { K.write_faults output.old ≤ K.write_faults output.new }
+    ensures fault { IsErrOf result Stop.WriteFault → Rose (K.write_faults output.old) (K.write_faults output.new) }
+    ensures no_read { IsErrOf result Stop.ReadFault → ⊥ }
+{
+    let mut reply = Vec::new(alloc);
+    write_error(alloc, UNSUPPORTED, NOT_IN_PROFILE, &mut reply)?;
+    write_ready(&mut reply)?;
+    send(output, &reply)
+}
+
+/// Answers a request: has the backend execute a statement or the startup, and sends the client the reply.
+pub fn answer<K: Sink>(
+    alloc: Global,
+    client: &ClientId,
+    key: &[u8; 32],
+    random: &mut SureRandom,
+    backend: &mut LabBackend,
+    output: &mut K,
+    said: Said,
+) -> Result<(), Stop>
+    requires idle { IsIdle backend.old }
+    requires can { CanAnswer backend.old.stream.opening said }
+    ensures gives { (s : State) (text : List ℕ) → Rests (record { client = client.now; key = key.now }) backend.old s backend.old.stream.opening → random.old ≡ s.coming
+        → AnswerGives (record { client = client.now; key = key.now }) backend.old.stream.opening s (request_of text said) result random.new backend.new (K.held output.old) (K.held output.new) }
+    ensures later { K.write_faults output.old ≤ K.write_faults output.new }
+    ensures fault { IsErrOf result Stop.WriteFault → Rose (K.write_faults output.old) (K.write_faults output.new) }
+    ensures no_read { IsErrOf result Stop.ReadFault → ⊥ }
+{
+    match said {
+        Said::Encrypts(_) => send(output, b"N"),
+        Said::Opens(params) => {
+            let request = Front::Startup { params };
+            forward(alloc, client, key, backend, output, &request, &[])
+        }
+        Said::Asks(tree) => answer_statement(alloc, client, key, random, backend, output, tree),
+        Said::Refused => refuse(alloc, output),
+    }
+}

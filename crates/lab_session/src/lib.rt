@@ -1,0 +1,28 @@
+//! One session of the lab: an encrypting proxy for one client over the lab's backend, from the bytes
+//! that come in to the bytes that go out.
+#![tactic(auto)]
+
+mod answering;
+mod container;
+mod forward;
+mod key;
+mod opening;
+mod plan;
+mod planning;
+mod relay;
+mod rewriting;
+mod said;
+mod send;
+mod session;
+mod showing;
+mod status;
+mod stop;
+
+pub use key::client_key;
+pub use session::first_session;
+pub use status::Status;
+
+#[cfg(test)]
+mod container_tests;
+#[cfg(test)]
+mod stored_tests;

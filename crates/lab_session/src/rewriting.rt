@@ -1,0 +1,159 @@
+ghost use Rattle.std.specs.Prelude.{◌≡◌, map, IfOk, OnOk, option_map};
+ghost use Rattle.plain_tables.specs.Rewritten.{rewritten_value, rewritten, protected_of};
+ghost use Rattle.hex.specs.Hex.{IsBytes};
+ghost use Rattle.table_machine.specs.Stored.{bytea_text};
+ghost use Rattle.lab_session.specs.Runs.{written, written_rows, written_values, cell_for, drawn_for};
+
+use crate::container::seal_container;
+use crate::opening::KEY_ID;
+use acra_base::{Bytes, ClientId, NoMemory, Sequence, SureRandom, TrialAead};
+use sql_profile::{Items, Operand, Statement};
+use std::alloc::Global;
+
+/// Which columns of a statement's result are protected.
+pub fn protected_columns(alloc: Global, tree: &Statement) -> Result<Vec<bool>, NoMemory>
+    ensures { IfOk result (λ v. v.items ≡ protected_of tree.now) }
+{
+    match tree {
+        Statement::Select { items, .. } => {
+            let Items::Columns(items) = items;
+            let mut protected = Vec::new(alloc);
+            'items: for item in items.as_slice() {
+                protected.push(item.column.as_slice() == b"body".as_slice())?;
+            }
+            Ok(protected)
+        }
+        Statement::Insert { .. } => Ok(Vec::new(alloc)),
+    }
+}
+
+fn written_values(values: &[Operand]) -> Option<&[u8]>
+    ensures { option_map (λ text. text.now) result ≡ written_values values.now }
+{
+    match values {
+        [_, Operand::Text(text)] => Some(text.as_slice()),
+        _ => None,
+    }
+}
+
+fn written_rows(rows: &[Sequence<Operand>]) -> Option<&[u8]>
+    ensures { option_map (λ text. text.now) result ≡ written_rows rows.now }
+{
+    match rows {
+        [row] => written_values(row.as_slice()),
+        _ => None,
+    }
+}
+
+// The string that a statement writes.
+fn written(tree: &Statement) -> Option<&[u8]>
+    ensures { option_map (λ text. text.now) result ≡ written tree.now }
+{
+    match tree {
+        Statement::Select { .. } => None,
+        Statement::Insert { rows, .. } => written_rows(rows.as_slice()),
+    }
+}
+
+// The bytes in text form: `\x` and lower-case hexadecimal digits.
+fn bytea_text(alloc: Global, bytes: &[u8]) -> Result<Bytes, NoMemory>
+    ensures { IfOk result (λ text. text ≡ bytea_text bytes.now) }
+{
+    let digits = hex::encode(alloc, bytes)?;
+    let mut text = Bytes::copied(alloc, b"\\x")?;
+    text.extend(digits.as_str().as_bytes())?;
+    Ok(text)
+}
+
+fn rewritten_value(alloc: Global, value: &Operand, cell: &[u8]) -> Result<Operand, NoMemory>
+    ensures { IfOk result (λ new. new ≡ rewritten_value cell.now value.now) }
+{
+    match value {
+        Operand::Text(_) => Ok(Operand::Text(bytea_text(alloc, cell)?)),
+        Operand::Number(n) => Ok(Operand::Number(*n)),
+    }
+}
+
+fn rewritten_row(
+    alloc: Global,
+    values: &[Operand],
+    cell: &[u8],
+) -> Result<Sequence<Operand>, NoMemory>
+    ensures { IfOk result (λ row. row ≡ map (rewritten_value cell.now) values.now) }
+{
+    let mut row = Sequence::new(alloc);
+    'values: for value in values {
+        row.push(rewritten_value(alloc, value, cell)?)?;
+    }
+    Ok(row)
+}
+
+fn rewritten_rows(
+    alloc: Global,
+    rows: &[Sequence<Operand>],
+    cell: &[u8],
+) -> Result<Sequence<Sequence<Operand>>, NoMemory>
+    ensures { IfOk result (λ new. new ≡ map (map (rewritten_value cell.now)) rows.now) }
+{
+    let mut new = Sequence::new(alloc);
+    'rows: for row in rows {
+        new.push(rewritten_row(alloc, row.as_slice(), cell)?)?;
+    }
+    Ok(new)
+}
+
+// The statement with this cell in the place of its string.
+fn rewritten(alloc: Global, tree: Statement, cell: &[u8]) -> Result<Statement, NoMemory>
+    ensures ok { IfOk result (λ new. new ≡ rewritten cell.now tree) }
+    ensures bytes { IsBytes cell.now }
+{
+    match tree {
+        Statement::Select { table, items } => Ok(Statement::Select { table, items }),
+        Statement::Insert {
+            table,
+            columns,
+            rows,
+        } => Ok(Statement::Insert {
+            table,
+            columns,
+            rows: rewritten_rows(alloc, rows.as_slice(), cell)?,
+        }),
+    }
+}
+
+// The cell of a written string, with the next 56 bytes that are drawn; none for no string.
+fn cell_for(
+    alloc: Global,
+    client: &ClientId,
+    key: &[u8; 32],
+    random: &mut SureRandom,
+    tree: &Statement,
+) -> Result<Vec<u8>, NoMemory>
+    ensures cell { IfOk result (λ cell. cell.items ≡ cell_for (record { client = client.now; key = key.now }) random.old (written tree.now)) }
+    ensures random { OnOk result (random.new ≡ drawn_for random.old (written tree.now)) }
+{
+    match written(tree) {
+        None => Ok(Vec::new(alloc)),
+        Some(plain) => {
+            let mut drawn = [0; 56];
+            random.fill(&mut drawn);
+            seal_container(alloc, &TrialAead, client.text(), KEY_ID, key, &drawn, plain)
+        }
+    }
+}
+
+/// The statement that is sent on, with a written string sealed.
+pub fn sealed_statement(
+    alloc: Global,
+    client: &ClientId,
+    key: &[u8; 32],
+    random: &mut SureRandom,
+    tree: Statement,
+) -> Result<Statement, NoMemory>
+    ensures sent { IfOk result (λ sent. sent ≡ rewritten (cell_for (record { client = client.now; key = key.now }) random.old (written tree)) tree) }
+    ensures random { OnOk result (random.new ≡ drawn_for random.old (written tree)) }
+    ensures bytes { OnOk result (IsBytes (cell_for (record { client = client.now; key = key.now }) random.old (written tree))) }
+{
+    let cell = cell_for(alloc, client, key, random, &tree)?;
+    rewritten(alloc, tree, &cell)
+}

@@ -1,0 +1,100 @@
+ghost use Rattle.std.specs.Prelude.{◌≡◌, ◌≤◌, ◌<◌, ℕ, List, [], IfOk, OnErr, IsErrOf};
+ghost use Rattle.acra_base.specs.Causes.{Rose};
+ghost use Rattle.plain_tables.specs.Requests.{Request};
+ghost use Rattle.table_machine.specs.Backend.{new_lab};
+ghost use Rattle.lab_session.specs.Session.{PieceRead, PieceTaken, status_of, Ran};
+
+use crate::answering::answer;
+use crate::said::{Next, next_said};
+use crate::status::Status;
+use crate::stop::Stop;
+use acra_base::{ClientId, Sink, Source, SureRandom};
+use pg_wire::{Framer, Side};
+use std::alloc::Global;
+use table_machine::LabBackend;
+
+/// A client's message has at most this length.
+const MESSAGE_LIMIT: u32 = 1 << 24;
+
+/// A session reads at most so many bytes.
+const READ_LIMIT: u64 = 1 << 48;
+
+fn stopped(stop: Stop) -> Status
+    ensures { result ≡ status_of stop }
+{
+    match stop {
+        Stop::NoMemory => Status::NoMemory,
+        Stop::ReadFault => Status::ReadFault,
+        Stop::WriteFault => Status::WriteFault,
+    }
+}
+
+// Reads a piece of at most `room` bytes, and feeds it.
+fn read_piece<S: Source>(input: &mut S, framer: &mut Framer, room: u64) -> Result<usize, Stop>
+    requires { 0 < room }
+    ensures ok { IfOk result (λ n. PieceRead (S.left input.old) (S.left input.new) framer.old framer.new n room) }
+    ensures err { OnErr result (PieceTaken (S.left input.old) (S.left input.new)) }
+    ensures later { S.read_faults input.old ≤ S.read_faults input.new }
+    ensures fault { IsErrOf result Stop.ReadFault → Rose (S.read_faults input.old) (S.read_faults input.new) }
+    ensures no_write { IsErrOf result Stop.WriteFault → ⊥ }
+{
+    let mut buf = [0; 4096];
+    let most = room.min(4096) as usize;
+    match input.read(&mut buf[..most]) {
+        Err(_) => Err(Stop::ReadFault),
+        Ok(count) => {
+            framer.feed(&buf[..count])?;
+            Ok(count)
+        }
+    }
+}
+
+/// One session of a client over the lab's backend: answers each request, in order, before it reads on.
+///
+/// The backend has the lab's table, empty, and was fed nothing.
+pub fn first_session<S: Source, K: Sink>(
+    alloc: Global,
+    input: &mut S,
+    output: &mut K,
+    random: &mut SureRandom,
+    who: &ClientId,
+    key: &[u8; 32],
+    backend: &mut LabBackend,
+) -> Status
+    requires { backend.old ≡ new_lab 1 [] }
+    ensures ran { (answered : List Request) × (begun : List Request) × (rest : List ℕ)
+        × Ran (record { client = who.now; key = key.now }) random.old (S.left input.old) (S.left input.new) (K.held output.old) (K.held output.new) backend.new.rows result answered begun rest }
+    ensures read_fault { result ≡ Status.ReadFault → Rose (S.read_faults input.old) (S.read_faults input.new) }
+    ensures write_fault { result ≡ Status.WriteFault → Rose (K.write_faults output.old) (K.write_faults output.new) }
+{
+    let mut framer = Framer::new(alloc, Side::Client, MESSAGE_LIMIT);
+    let mut taken: u64 = 0;
+    'session: loop {
+        match next_said(alloc, &mut framer) {
+            Err(_) => return Status::NoMemory,
+            Ok(Next::Bad { offset, kind }) => return Status::BadClient { offset, kind },
+            Ok(Next::Leaves) => return Status::Done,
+            Ok(Next::Said(said)) => {
+                match answer(alloc, who, key, random, backend, output, said) {
+                    Ok(()) => {}
+                    Err(stop) => return stopped(stop),
+                }
+            }
+            Ok(Next::Waiting) => {
+                if taken >= READ_LIMIT {
+                    return Status::Spent;
+                }
+                match read_piece(input, &mut framer, READ_LIMIT - taken) {
+                    Err(stop) => return stopped(stop),
+                    Ok(0) => {
+                        if framer.is_empty() {
+                            return Status::Done;
+                        }
+                        return Status::ClientCut { offset: taken };
+                    }
+                    Ok(count) => taken += count as u64,
+                }
+            }
+        }
+    }
+}

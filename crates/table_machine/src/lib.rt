@@ -20,4 +20,5 @@ pub use backend::LabBackend;
 pub use cell::Cell;
 pub use laws::{cells_are_carried, texts_are_read_back};
 pub use outcome::{LabFault, OutColumn, Outcome};
+pub use replies::{write_error, write_ready};
 pub use tables::Tables;

@@ -3,7 +3,8 @@ use Rattle.std.proofs.Common.{◌≡◌, ℕ, zero, suc, ◌^◌, ◌<◌, ◌�
 use Rattle.std.specs.List.{flat_map, AllByRecursion}
 use Rattle.std.specs.Int.{w16, to_be_bytes}
 use Rattle.std.proofs.lemmas.List.{length-append}
-use Rattle.pg_wire.specs.Bodies.{◌>>=◌, number_at, items_at, counted_at, ended_at, listed_at}
+use Rattle.pg_wire.specs.Parts.{AreCounted, counted_items, listed_items}
+use Rattle.pg_wire.specs.Bodies.{◌>>=◌, ◌followed_by◌, number_at, items_at, counted_at, ended_at, listed_at}
 use Rattle.pg_wire.proofs.Shorter.{bind_ok, ok_is}
 use Rattle.pg_wire.proofs.Numbers.{IsBytes, Takes, Takes-then, wide16, number_takes, number_again}
 
@@ -36,13 +37,6 @@ items_again item spell Fits is (x ∷ xs) rest fits =
     let regrouped : flat_map spell (x ∷ xs) ++ rest ≡ spell x ++ (flat_map spell xs ++ rest) = append_assoc (spell x) (flat_map spell xs) rest in
     ap (items_at item (suc (length xs))) regrouped ∙ rw (is.again x (flat_map spell xs ++ rest) fits.0, items_again item spell Fits is xs rest fits.1) refl
 
--- a count and its items
-abbrev pub counted_items : {A : Type 0} → (A → List ℕ) → List A → List ℕ
-counted_items spell xs = to_be_bytes w16 (length xs) ++ flat_map spell xs
-
-abbrev pub AreCounted : {A : Type 0} → (A → Type 0) → List A → Type 0
-AreCounted Fits xs = (length xs < 2 ^ 16) × AllByRecursion Fits xs
-
 pub counted_takes : {A : Type 0} (item : List ℕ → Result (A × List ℕ) ℕ) (spell : A → List ℕ) (Fits : A → Type 0) → IsItem item spell Fits
     → (bytes : List ℕ) (x : List A × List ℕ) → IsBytes bytes → counted_at item bytes ≡ Ok x → Takes bytes (counted_items spell x.0) x.1 × AreCounted Fits x.0
 unfolding counted_at
@@ -60,6 +54,30 @@ counted_again item spell Fits is xs rest fits =
     let regrouped : counted_items spell xs ++ rest ≡ to_be_bytes w16 (length xs) ++ (flat_map spell xs ++ rest) = append_assoc (to_be_bytes w16 (length xs)) (flat_map spell xs) rest in
     ap (counted_at item) regrouped ∙ rw (number_again w16 (2 ^ 16) wide16 (length xs) (flat_map spell xs ++ rest) fits.0) (items_again item spell Fits is xs rest fits.1)
 
+pub counted_item : {A : Type 0} {item : List ℕ → Result (A × List ℕ) ℕ} {spell : A → List ℕ} {Fits : A → Type 0} → IsItem item spell Fits → IsItem (counted_at item) (counted_items spell) (AreCounted Fits)
+counted_item {A} {item} {spell} {Fits} is = record { takes = counted_takes item spell Fits is; again = counted_again item spell Fits is }
+
+-- ---- one behind another
+
+both_takes : {A B : Type 0} (a : List ℕ → Result (A × List ℕ) ℕ) (b : List ℕ → Result (B × List ℕ) ℕ) (sa : A → List ℕ) (sb : B → List ℕ) (Fa : A → Type 0) (Fb : B → Type 0) → IsItem a sa Fa → IsItem b sb Fb
+    → (bytes : List ℕ) (x : (A × B) × List ℕ) → IsBytes bytes → (a followed_by b) bytes ≡ Ok x → Takes bytes (sa x.0.0 ++ sb x.0.1) x.1 × (Fa x.0.0 × Fb x.0.1)
+both_takes {A} {B} a b sa sb Fa Fb ia ib bytes x fits e =
+    let p = bind_ok (a bytes) (λ first. b first.1 >>= λ second. Ok ((first.0, second.0), second.1)) x e in
+    let q = bind_ok (b p.0.1) (λ second. Ok ((p.0.0, second.0), second.1)) x p.2 in
+    let t = ia.takes bytes p.0 fits p.1 in
+    let u = ib.takes p.0.1 q.0 t.0.rest_fits q.1 in
+    let made : (A × B) × List ℕ = ((p.0.0, q.0.0), q.0.1) in
+    subst (λ (y : (A × B) × List ℕ). Takes bytes (sa y.0.0 ++ sb y.0.1) y.1 × (Fa y.0.0 × Fb y.0.1)) (ok_is made x q.2) (Takes-then bytes (sa p.0.0) p.0.1 (sb q.0.0) q.0.1 t.0 u.0, (t.1, u.1))
+
+both_again : {A B : Type 0} (a : List ℕ → Result (A × List ℕ) ℕ) (b : List ℕ → Result (B × List ℕ) ℕ) (sa : A → List ℕ) (sb : B → List ℕ) (Fa : A → Type 0) (Fb : B → Type 0) → IsItem a sa Fa → IsItem b sb Fb
+    → (x : A × B) (rest : List ℕ) → Fa x.0 × Fb x.1 → (a followed_by b) ((sa x.0 ++ sb x.1) ++ rest) ≡ Ok (x, rest)
+both_again a b sa sb Fa Fb ia ib x rest is =
+    ap (a followed_by b) (append_assoc (sa x.0) (sb x.1) rest) ∙ rw (ia.again x.0 (sb x.1 ++ rest) is.0, ib.again x.1 rest is.1) refl
+
+pub both_item : {A B : Type 0} {a : List ℕ → Result (A × List ℕ) ℕ} {b : List ℕ → Result (B × List ℕ) ℕ} {sa : A → List ℕ} {sb : B → List ℕ} {Fa : A → Type 0} {Fb : B → Type 0} → IsItem a sa Fa → IsItem b sb Fb
+    → IsItem (a followed_by b) (λ x. sa x.0 ++ sb x.1) (λ x. Fa x.0 × Fb x.1)
+both_item {A} {B} {a} {b} {sa} {sb} {Fa} {Fb} ia ib = record { takes = both_takes a b sa sb Fa Fb ia ib; again = both_again a b sa sb Fa Fb ia ib }
+
 -- ---- up to a zero byte
 
 -- an item that doesn't begin with a zero byte
@@ -67,10 +85,6 @@ pub record IsListed {A : Type 0} (item : List ℕ → Result (A × List ℕ) ℕ
   pub takes : (b : ℕ) (bytes : List ℕ) (x : A × List ℕ) → IsBytes (suc b ∷ bytes) → item (suc b ∷ bytes) ≡ Ok x → Takes (suc b ∷ bytes) (spell x.0) x.1 × Fits x.0
   pub again : (x : A) (rest : List ℕ) → Fits x → item (spell x ++ rest) ≡ Ok (x, rest)
   pub begins : (x : A) → Fits x → (b : ℕ) × (tail : List ℕ) × (spell x ≡ suc b ∷ tail)
-
--- items and the zero byte that ends them
-abbrev pub listed_items : {A : Type 0} → (A → List ℕ) → List A → List ℕ
-listed_items spell xs = flat_map spell xs ++ 0 ∷ []
 
 IsBytes-rest : (b : ℕ) (bytes : List ℕ) → IsBytes (b ∷ bytes) → IsBytes bytes
 IsBytes-rest b bytes h i = h (suc i)

@@ -7,7 +7,9 @@ pub mod Numbers
 pub mod Texts
 pub mod Items
 pub mod RowLaws
-pub mod Messages
+pub mod Arms
+pub mod BackMessages
+pub mod FrontMessages
 pub mod Within
 pub mod Readings
 pub mod FrameLaws

@@ -6,7 +6,8 @@ use Rattle.pg_wire.specs.Fronts.{IsFront, front_kind, front_body}
 use Rattle.pg_wire.specs.Backs.{IsBack, back_kind, back_body}
 use Rattle.pg_wire.specs.Bodies.{front_read, back_read}
 use Rattle.pg_wire.proofs.Shorter.{ok_is}
-use Rattle.pg_wire.proofs.Messages.{front_again, back_again}
+use Rattle.pg_wire.proofs.FrontMessages.{front_again}
+use Rattle.pg_wire.proofs.BackMessages.{back_again}
 
 pub one_front : (a b : Front) → IsFront a → IsFront b → front_kind a ≡ front_kind b → front_body a ≡ front_body b → a ≡ b
 one_front a b is js kinds bodies = ok_is a b (sym (front_again a is) ∙ ap (λ (k : ℕ). front_read k (front_body a)) kinds ∙ ap (front_read (front_kind b)) bodies ∙ front_again b js)

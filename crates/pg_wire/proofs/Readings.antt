@@ -8,7 +8,8 @@ use Rattle.pg_wire.specs.Reading.{SpellsFront, SpellsBack, ReadsAs, ReadsExactly
 use Rattle.pg_wire.specs.Bodies.{back_read, front_read}
 use Rattle.pg_wire.proofs.Shorter.{ok_is}
 use Rattle.pg_wire.proofs.Within.{back_left, front_left}
-use Rattle.pg_wire.proofs.Messages.{back_again, front_again}
+use Rattle.pg_wire.proofs.FrontMessages.{front_again}
+use Rattle.pg_wire.proofs.BackMessages.{back_again}
 
 -- what is read exactly is what is known to be read
 as_known : {M : Type 0} (body : List ℕ) (r : Result M ReadBody) (reading : Result M ℕ) (m : M) → reading ≡ Ok m → ReadsExactly body r reading → ReadsAs r m

@@ -8,8 +8,9 @@ use Rattle.std.proofs.Math.Facts.{sfits_to_z, Fits-of_z}
 use Rattle.pg_wire.specs.declared.back.Field.{Field}
 use Rattle.pg_wire.specs.declared.back.ErrorField.{ErrorField}
 use Rattle.pg_wire.specs.declared.front.Pair.{Pair}
-use Rattle.pg_wire.specs.Fronts.{IsText, str, IsParam, pair_bytes}
-use Rattle.pg_wire.specs.Backs.{IsField, field_bytes, IsCell, cell_bytes, IsErrorField, error_bytes}
+use Rattle.pg_wire.specs.Parts.{IsText, str, pair_bytes, IsWord, IsFormat, IsCell, cell_bytes}
+use Rattle.pg_wire.specs.Fronts.{IsParam}
+use Rattle.pg_wire.specs.Backs.{IsField, field_bytes, IsErrorField, error_bytes}
 use Rattle.pg_wire.specs.Bodies.{◌>>=◌, number_at, bytes_at, str_at, pair_at, format_at, field_at, cell_at, error_at}
 use Rattle.pg_wire.proofs.Shorter.{bind_ok, ok_is}
 use Rattle.pg_wire.proofs.Numbers.{IsBytes, Takes, Takes-then, wide16, wide32, number_takes, number_again, bytes_take, bytes_again}
@@ -35,6 +36,17 @@ format_takes bytes x fits e =
 format_again : (n : ℕ) (rest : List ℕ) → n < 2 → format_at (to_be_bytes w16 n ++ rest) ≡ Ok (n, rest)
 unfolding format_at
 format_again n rest lt = rw (number_again w16 (2 ^ 16) wide16 n rest (omega arith), lt-ltb n 2 lt) refl
+
+-- ---- fields by themselves
+
+pub str_item : IsItem str_at str IsText
+str_item = record { takes = str_takes; again = str_again }
+
+pub word_item : IsItem (number_at w32) (to_be_bytes w32) IsWord
+word_item = record { takes = number_takes w32 (2 ^ 32) wide32; again = number_again w32 (2 ^ 32) wide32 }
+
+pub format_item : IsItem format_at (to_be_bytes w16) IsFormat
+format_item = record { takes = format_takes; again = format_again }
 
 -- ---- columns
 

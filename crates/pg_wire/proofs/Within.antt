@@ -3,12 +3,14 @@ use Rattle.std.proofs.Common.{◌≡◌, ℕ, zero, suc, ◌+◌, ◌≤◌, Boo
 use Rattle.std.specs.List.{position}
 use Rattle.std.specs.Int.{Width, w16, w32, byte_len, from_be_bytes}
 use Rattle.std.proofs.lemmas.List.{length-drop}
+use Rattle.pg_wire.specs.declared.front.Target.TheVariants as targets
 use Rattle.pg_wire.specs.declared.front.Front.{Front}
 use Rattle.pg_wire.specs.declared.front.Front.TheVariants as fronts
 use Rattle.pg_wire.specs.declared.back.Back.{Back}
 use Rattle.pg_wire.specs.declared.back.Back.TheVariants as backs
-use Rattle.pg_wire.specs.Bodies.{◌>>=◌, number_at, bytes_at, around, str_at, pair_at, format_at, field_at, cell_at, error_at, state_at, items_at, counted_at, ended_at, listed_at, alone, mapped, auth_at, key_data_at, back_at, back_read, startup_at, front_at, front_read}
+use Rattle.pg_wire.specs.Bodies.{◌>>=◌, number_at, bytes_at, around, str_at, pair_at, format_at, field_at, cell_at, error_at, state_at, items_at, counted_at, ended_at, listed_at, alone, mapped, auth_at, key_data_at, back_at, back_read, ◌followed_by◌, startup_at, parse_at, bind_at, target_at, targeted_at, execute_at, coded_at, front_at, front_read}
 use Rattle.pg_wire.proofs.RowLaws.{with_name, with_table, with_attribute, with_kind, with_size, with_modifier, with_format, some_cell, sized_cell, cell_behind}
+use Rattle.pg_wire.proofs.FrontMessages.{cancelled}
 
 abbrev pub Within : {A : Type 0} → ℕ → Result (A × List ℕ) ℕ → Type 0
 Within n (Ok x) = length x.1 ≤ n
@@ -163,21 +165,76 @@ pub back_left : (kind : ℕ) (body : List ℕ) (left : ℕ) → back_read kind b
 unfolding back_read
 back_left kind body left e = alone_within (length body) left (back_at kind body) (back_bounded kind body).bound e
 
+both_within : {A B : Type 0} (a : List ℕ → Result (A × List ℕ) ℕ) (b : List ℕ → Result (B × List ℕ) ℕ) → ((bytes : List ℕ) → Within (length bytes) (a bytes)) → ((bytes : List ℕ) → Within (length bytes) (b bytes))
+    → (bytes : List ℕ) → Within (length bytes) ((a followed_by b) bytes)
+both_within a b wa wb bytes =
+    within_bind (length bytes) (a bytes) (λ first. b first.1 >>= λ second. Ok ((first.0, second.0), second.1)) (wa bytes) (λ first.
+    within_bind (length first.1) (b first.1) (λ second. Ok ((first.0, second.0), second.1)) (wb first.1) (λ second. omega arith))
+
 startup_within : (bytes : List ℕ) → Within (length bytes) (startup_at bytes)
 unfolding startup_at
 startup_within bytes = by (number_at w32 bytes) (number_within w32 bytes) where
-  by : (r : Result (ℕ × List ℕ) ℕ) → Within (length bytes) r → Within (length bytes) (r >>= λ code. cond (eqb code.0 196608) (mapped fronts.Startup (listed_at pair_at code.1)) (Err (length bytes)))
+  by : (r : Result (ℕ × List ℕ) ℕ) → Within (length bytes) r → Within (length bytes) (r >>= coded_at (length bytes))
   by (Ok code) h =
-      within_cond (length bytes) (eqb code.0 196608) (mapped fronts.Startup (listed_at pair_at code.1)) (Err (length bytes))
-      (within_more (length code.1) (length bytes) (mapped fronts.Startup (listed_at pair_at code.1)) h (within_mapped (length code.1) fronts.Startup (listed_at pair_at code.1) (listed_within pair_at pair_within code.1))) (omega arith)
+      let n = length bytes in
+      let opened = within_more (length code.1) n (mapped fronts.Startup (listed_at pair_at code.1)) h (within_mapped (length code.1) fronts.Startup (listed_at pair_at code.1) (listed_within pair_at pair_within code.1)) in
+      let two = (number_at w32 followed_by number_at w32) code.1 in
+      let cancel = within_more (length code.1) n (mapped cancelled two) h (within_mapped (length code.1) cancelled two (both_within (number_at w32) (number_at w32) (number_within w32) (number_within w32) code.1)) in
+      (chain (eqb code.0 196608) (mapped fronts.Startup (listed_at pair_at code.1)) opened
+      (chain (eqb code.0 80877103) (Ok (fronts.SslRequest, code.1)) h
+      (chain (eqb code.0 80877104) (Ok (fronts.GssRequest, code.1)) h
+      (chain (eqb code.0 80877102) (mapped cancelled two) cancel
+      (record { bound = omega arith }))))).bound
   by (Err left) h = h
+
+parse_within : (bytes : List ℕ) → Within (length bytes) (parse_at bytes)
+unfolding parse_at
+parse_within bytes =
+    within_mapped (length bytes) (λ x. fronts.Parse x.0.0 x.0.1 x.1) ((str_at followed_by str_at followed_by counted_at (number_at w32)) bytes)
+    (both_within (str_at followed_by str_at) (counted_at (number_at w32)) (both_within str_at str_at str_within str_within) (counted_within (number_at w32) (number_within w32)) bytes)
+
+bind_within : (bytes : List ℕ) → Within (length bytes) (bind_at bytes)
+unfolding bind_at
+bind_within bytes =
+    let formats = counted_within format_at format_within in
+    let values = counted_within cell_at cell_within in
+    let two = both_within str_at str_at str_within str_within in
+    let three = both_within (str_at followed_by str_at) (counted_at format_at) two formats in
+    let four = both_within (str_at followed_by str_at followed_by counted_at format_at) (counted_at cell_at) three values in
+    within_mapped (length bytes) (λ x. fronts.Bind x.0.0.0.0 x.0.0.0.1 x.0.0.1 x.0.1 x.1) ((str_at followed_by str_at followed_by counted_at format_at followed_by counted_at cell_at followed_by counted_at format_at) bytes)
+    (both_within (str_at followed_by str_at followed_by counted_at format_at followed_by counted_at cell_at) (counted_at format_at) four formats bytes)
+
+target_within : (bytes : List ℕ) → Within (length bytes) (target_at bytes)
+unfolding target_at
+target_within [] = omega arith
+target_within (b ∷ bytes) =
+    within_cond (length (b ∷ bytes)) (eqb b 83) (Ok (targets.Prepared, bytes)) (cond (eqb b 80) (Ok (targets.Portal, bytes)) (Err (length (b ∷ bytes)))) (omega arith)
+    (within_cond (length (b ∷ bytes)) (eqb b 80) (Ok (targets.Portal, bytes)) (Err (length (b ∷ bytes))) (omega arith) (omega arith))
+
+targeted_within : (bytes : List ℕ) → Within (length bytes) (targeted_at bytes)
+unfolding targeted_at
+targeted_within bytes = both_within target_at str_at target_within str_within bytes
+
+execute_within : (bytes : List ℕ) → Within (length bytes) (execute_at bytes)
+unfolding execute_at
+execute_within bytes =
+    within_mapped (length bytes) (λ x. fronts.Execute x.0 x.1) ((str_at followed_by number_at w32) bytes) (both_within str_at (number_at w32) str_within (number_within w32) bytes)
 
 front_bounded : (kind : ℕ) (body : List ℕ) → Bounded Front (length body) (front_at kind body)
 front_bounded kind body =
+    let n = length body in
     chain (eqb kind 0) (startup_at body) (startup_within body)
-    (chain (eqb kind 81) (mapped fronts.Query (str_at body)) (within_mapped (length body) fronts.Query (str_at body) (str_within body))
+    (chain (eqb kind 81) (mapped fronts.Query (str_at body)) (within_mapped n fronts.Query (str_at body) (str_within body))
+    (chain (eqb kind 80) (parse_at body) (parse_within body)
+    (chain (eqb kind 66) (bind_at body) (bind_within body)
+    (chain (eqb kind 68) (mapped (λ x. fronts.Describe x.0 x.1) (targeted_at body)) (within_mapped n (λ x. fronts.Describe x.0 x.1) (targeted_at body) (targeted_within body))
+    (chain (eqb kind 69) (execute_at body) (execute_within body)
+    (chain (eqb kind 67) (mapped (λ x. fronts.Close x.0 x.1) (targeted_at body)) (within_mapped n (λ x. fronts.Close x.0 x.1) (targeted_at body) (targeted_within body))
+    (chain (eqb kind 83) (Ok (fronts.Sync, body)) (omega arith)
+    (chain (eqb kind 72) (Ok (fronts.Flush, body)) (omega arith)
+    (chain (eqb kind 112) (Ok (fronts.Password body, [])) (omega arith)
     (chain (eqb kind 88) (Ok (fronts.Terminate, body)) (omega arith)
-    (record { bound = omega arith })))
+    (record { bound = omega arith })))))))))))
 
 pub front_left : (kind : ℕ) (body : List ℕ) (left : ℕ) → front_read kind body ≡ Err left → left ≤ length body
 unfolding front_read

@@ -1,5 +1,5 @@
 -- The messages of a server and their one spelling.
-use Rattle.std.specs.Prelude.{ℕ, ◌≡◌, ◌^◌, ◌<◌, ◌⊎◌, List, [], ◌∷◌, ◌++◌, length, Option, Some, None}
+use Rattle.std.specs.Prelude.{ℕ, ◌≡◌, ◌^◌, ◌<◌, ◌⊎◌, List, [], ◌∷◌, ◌++◌, length}
 use Rattle.std.specs.List.{flat_map, AllByRecursion}
 use Rattle.std.specs.Int.{w16, w32, to_be_bytes, cast_unsigned}
 use Rattle.std.specs.Int.RustNames.{FitsSigned}
@@ -8,7 +8,8 @@ use Rattle.pg_wire.specs.declared.back.ErrorField.{ErrorField}
 use Rattle.pg_wire.specs.declared.back.Back.{Back}
 use Rattle.pg_wire.specs.declared.back.Back.TheVariants as backs
 use Rattle.pg_wire.specs.Frames.{frame_bytes}
-use Rattle.pg_wire.specs.Fronts.{IsText, str, IsPair, pair_bytes}
+use Rattle.pg_wire.specs.Parts.{IsText, str, IsPair, pair_bytes}
+pub use Rattle.pg_wire.specs.Parts.{IsCell, cell_bytes}
 
 pub record IsField (f : Field) : Type 0 where
   pub name : IsText f.name
@@ -23,16 +24,6 @@ abbrev pub field_bytes : Field → List ℕ
 field_bytes f =
     str f.name ++ to_be_bytes w32 f.table ++ to_be_bytes w16 f.attribute ++ to_be_bytes w32 f.kind ++ to_be_bytes w16 (cast_unsigned w16 f.size)
     ++ to_be_bytes w32 (cast_unsigned w32 f.modifier) ++ to_be_bytes w16 f.format
-
--- a length is below 2^31, since a negative one is none
-abbrev pub IsCell : Option (List ℕ) → Type 0
-IsCell None = Unit {0}
-IsCell (Some bytes) = length bytes < 2 ^ 31
-
--- NULL has the length -1
-abbrev pub cell_bytes : Option (List ℕ) → List ℕ
-cell_bytes None = to_be_bytes w32 4294967295
-cell_bytes (Some bytes) = to_be_bytes w32 (length bytes) ++ bytes
 
 abbrev pub IsErrorField : ErrorField → Type 0
 IsErrorField f = (0 < f.code) × (f.code < 256) × IsText f.text

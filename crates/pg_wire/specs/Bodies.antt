@@ -4,6 +4,8 @@ use Rattle.std.specs.Prelude.{ℕ, zero, suc, ◌||◌, ◌+◌, ◌^◌, ◌==�
 use Rattle.std.specs.List.{position}
 use Rattle.std.specs.Int.{Width, w16, w32, byte_len, from_be_bytes, cast_signed}
 use Rattle.pg_wire.specs.declared.front.Pair.{Pair}
+use Rattle.pg_wire.specs.declared.front.Target.{Target}
+use Rattle.pg_wire.specs.declared.front.Target.TheVariants as targets
 use Rattle.pg_wire.specs.declared.front.Front.{Front}
 use Rattle.pg_wire.specs.declared.front.Front.TheVariants as fronts
 use Rattle.pg_wire.specs.declared.back.Field.{Field}
@@ -15,6 +17,14 @@ infixl 10 ◌>>=◌
 abbrev pub ◌>>=◌ : {A B : Type 0} → Result A ℕ → (A → Result B ℕ) → Result B ℕ
 (Ok x) >>= f = f x
 (Err left) >>= f = Err left
+
+-- a field, and another one behind it
+infixl 20 ◌followed_by◌
+abbrev pub ◌followed_by◌ : {A B : Type 0} → (List ℕ → Result (A × List ℕ) ℕ) → (List ℕ → Result (B × List ℕ) ℕ) → List ℕ → Result ((A × B) × List ℕ) ℕ
+◌followed_by◌ item other bytes = do
+  first ← item bytes
+  second ← other first.1
+  Ok ((first.0, second.0), second.1)
 
 -- ---- fields
 
@@ -148,16 +158,54 @@ back_at kind body =
 unfoldable pub back_read : ℕ → List ℕ → Result Back ℕ
 back_read kind body = back_at kind body >>= alone
 
--- protocol 3.0 is the code 196608
-unfoldable pub startup_at : List ℕ → Result (Front × List ℕ) ℕ
-startup_at bytes = do
-  code ← number_at w32 bytes
-  if code.0 == 196608 then mapped fronts.Startup (listed_at pair_at code.1) else Err (length bytes)
+-- what stands behind the code of a startup packet: 196608 for protocol 3.0, and those of the requests. Another
+-- code is a fault at the first byte of the body, which has this length.
+abbrev pub coded_at : ℕ → ℕ × List ℕ → Result (Front × List ℕ) ℕ
+coded_at len code =
+    if code.0 == 196608 then mapped fronts.Startup (listed_at pair_at code.1)
+    else if code.0 == 80877103 then Ok (fronts.SslRequest, code.1)
+    else if code.0 == 80877104 then Ok (fronts.GssRequest, code.1)
+    else if code.0 == 80877102 then mapped (λ x. fronts.Cancel x.0 x.1) ((number_at w32 followed_by number_at w32) code.1)
+    else Err len
 
+unfoldable pub startup_at : List ℕ → Result (Front × List ℕ) ℕ
+startup_at bytes = number_at w32 bytes >>= coded_at (length bytes)
+
+-- a name, a text, and types
+unfoldable pub parse_at : List ℕ → Result (Front × List ℕ) ℕ
+parse_at bytes = mapped (λ x. fronts.Parse x.0.0 x.0.1 x.1) ((str_at followed_by str_at followed_by counted_at (number_at w32)) bytes)
+
+-- a portal, a statement, formats, values, and formats of results
+unfoldable pub bind_at : List ℕ → Result (Front × List ℕ) ℕ
+bind_at bytes =
+    mapped (λ x. fronts.Bind x.0.0.0.0 x.0.0.0.1 x.0.0.1 x.0.1 x.1)
+    ((str_at followed_by str_at followed_by counted_at format_at followed_by counted_at cell_at followed_by counted_at format_at) bytes)
+
+unfoldable pub target_at : List ℕ → Result (Target × List ℕ) ℕ
+target_at [] = Err 0
+target_at (b ∷ bytes) = if b == 83 then Ok (targets.Prepared, bytes) else if b == 80 then Ok (targets.Portal, bytes) else Err (length (b ∷ bytes))
+
+-- what a message is about, and its name
+unfoldable pub targeted_at : List ℕ → Result ((Target × List ℕ) × List ℕ) ℕ
+targeted_at bytes = (target_at followed_by str_at) bytes
+
+-- a portal, and the most rows
+unfoldable pub execute_at : List ℕ → Result (Front × List ℕ) ℕ
+execute_at bytes = mapped (λ x. fronts.Execute x.0 x.1) ((str_at followed_by number_at w32) bytes)
+
+-- a message of this type, 0 for a startup packet; another type is a fault at the body's first byte
 abbrev pub front_at : ℕ → List ℕ → Result (Front × List ℕ) ℕ
 front_at kind body =
     if kind == 0 then startup_at body
     else if kind == 81 then mapped fronts.Query (str_at body)
+    else if kind == 80 then parse_at body
+    else if kind == 66 then bind_at body
+    else if kind == 68 then mapped (λ x. fronts.Describe x.0 x.1) (targeted_at body)
+    else if kind == 69 then execute_at body
+    else if kind == 67 then mapped (λ x. fronts.Close x.0 x.1) (targeted_at body)
+    else if kind == 83 then Ok (fronts.Sync, body)
+    else if kind == 72 then Ok (fronts.Flush, body)
+    else if kind == 112 then Ok (fronts.Password body, [])
     else if kind == 88 then Ok (fronts.Terminate, body)
     else Err (length body)
 

@@ -1,5 +1,6 @@
 pub mod Frames
 pub mod Streams
+pub mod Parts
 pub mod Fronts
 pub mod Backs
 pub mod Reading

@@ -5,11 +5,7 @@ ghost use Rattle.pg_wire.specs.Frames.{types_of, is_type, asks_encryption};
 ghost use Rattle.pg_wire.specs.Heads.{IsCounted, IsHead};
 
 use crate::frame::{FrameFault, Side};
-
-/// The codes of the startup packets that ask for encryption by TLS and by GSSAPI.
-const TLS_REQUEST: u32 = 80_877_103;
-
-const GSS_REQUEST: u32 = 80_877_104;
+use crate::front::{GSS_REQUEST, TLS_REQUEST};
 
 /// What stands at the front of a stream.
 pub enum Head<'a> {

@@ -4,6 +4,7 @@
 
 mod back;
 mod columns;
+mod counted;
 mod fields;
 mod frame;
 mod framer;
@@ -12,14 +13,17 @@ mod head;
 mod laws;
 mod lists;
 mod put;
+mod put_front;
 mod reading_back;
 mod reading_front;
+mod startup;
+mod statements;
 mod write;
 
 pub use back::{Back, ErrorField, Field};
 pub use frame::{Frame, FrameFault, MessageFault, NextFault, ReadBody, Side};
 pub use framer::Framer;
-pub use front::{Front, Pair};
+pub use front::{Front, Pair, Target};
 pub use laws::{
     fault_is_no_frame, fault_stays, one_back, one_fault, one_frame, one_front, unfinished_begins,
 };

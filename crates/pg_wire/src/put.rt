@@ -1,8 +1,8 @@
 ghost use Rattle.std.specs.Prelude.{◌≡◌, ◌++◌, ◌∷◌, [], ◌<◌, ◌^◌, length, OnOk, List, Option};
 ghost use Rattle.std.specs.Int.{w16, w32, to_be_bytes, cast_unsigned};
 ghost use Rattle.std.specs.List.{flat_map, AllByRecursion};
-ghost use Rattle.pg_wire.specs.Fronts.{str, pair_bytes};
-ghost use Rattle.pg_wire.specs.Backs.{IsCell, field_bytes, cell_bytes, error_bytes};
+ghost use Rattle.pg_wire.specs.Parts.{str, pair_bytes, IsCell, cell_bytes, counted_items, AreCounted};
+ghost use Rattle.pg_wire.specs.Backs.{field_bytes, error_bytes};
 
 use crate::back::{ErrorField, Field, NULL_LENGTH};
 use crate::front::Pair;
@@ -52,6 +52,30 @@ pub fn put_u32(number: u32, out: &mut Vec<u8>) -> Result<(), NoMemory>
     Ok(())
 }
 
+/// Puts numbers of two bytes, with their count, at the end.
+pub fn put_u16s(numbers: &[u16], out: &mut Vec<u8>) -> Result<(), NoMemory>
+    requires { length numbers.now < 2 ^ 16 }
+    ensures { OnOk result (out.new.items ≡ out.old.items ++ counted_items (to_be_bytes w16) numbers.now) }
+{
+    put_u16(numbers.len() as u16, out)?;
+    'numbers: for number in numbers {
+        put_u16(*number, out)?;
+    }
+    Ok(())
+}
+
+/// Puts numbers of four bytes, with their count, at the end.
+pub fn put_u32s(numbers: &[u32], out: &mut Vec<u8>) -> Result<(), NoMemory>
+    requires { length numbers.now < 2 ^ 16 }
+    ensures { OnOk result (out.new.items ≡ out.old.items ++ counted_items (to_be_bytes w32) numbers.now) }
+{
+    put_u16(numbers.len() as u16, out)?;
+    'numbers: for number in numbers {
+        put_u32(*number, out)?;
+    }
+    Ok(())
+}
+
 /// Puts a signed number of two bytes at the end.
 fn put_i16(number: i16, out: &mut Vec<u8>) -> Result<(), NoMemory>
     ensures { OnOk result (out.new.items ≡ out.old.items ++ to_be_bytes w16 (cast_unsigned w16 number)) }
@@ -85,7 +109,7 @@ fn put_field(field: &Field, out: &mut Vec<u8>) -> Result<(), NoMemory>
 /// Puts the descriptions of columns, with their count, at the end.
 pub fn put_fields(fields: &[Field], out: &mut Vec<u8>) -> Result<(), NoMemory>
     requires { length fields.now < 2 ^ 16 }
-    ensures { OnOk result (out.new.items ≡ out.old.items ++ (to_be_bytes w16 (length fields.now) ++ flat_map field_bytes fields.now)) }
+    ensures { OnOk result (out.new.items ≡ out.old.items ++ counted_items field_bytes fields.now) }
 {
     put_u16(fields.len() as u16, out)?;
     'fields: for field in fields {
@@ -114,9 +138,8 @@ fn put_cell(cell: &Option<Bytes>, out: &mut Vec<u8>) -> Result<(), NoMemory>
 
 /// Puts the cells of a row, with their count, at the end.
 pub fn put_cells(cells: &[Option<Bytes>], out: &mut Vec<u8>) -> Result<(), NoMemory>
-    requires few { length cells.now < 2 ^ 16 }
-    requires each { AllByRecursion IsCell cells.now }
-    ensures { OnOk result (out.new.items ≡ out.old.items ++ (to_be_bytes w16 (length cells.now) ++ flat_map cell_bytes cells.now)) }
+    requires { AreCounted IsCell cells.now }
+    ensures { OnOk result (out.new.items ≡ out.old.items ++ counted_items cell_bytes cells.now) }
 {
     put_u16(cells.len() as u16, out)?;
     'cells: for cell in cells {

@@ -5,7 +5,8 @@ ghost use Rattle.pg_wire.specs.Reading.{SpellsBack, ReadsAs, ReadsExactly};
 ghost use Rattle.pg_wire.specs.declared.back.Back.{Back};
 
 use crate::back::Back;
-use crate::columns::{row_cells_of, row_of};
+use crate::columns::row_of;
+use crate::counted::counted_cells_of;
 use crate::fields::{Unread, pair_of, str_of, u32_of};
 use crate::frame::{Frame, ReadBody};
 use crate::lists::error_fields_of;
@@ -69,7 +70,7 @@ fn back_of(alloc: Global, kind: u8, body: &[u8]) -> Result<(Back, &[u8]), Unread
             Ok((Back::Row(fields), rest))
         }
         b'D' => {
-            let (cells, rest) = row_cells_of(alloc, body)?;
+            let (cells, rest) = counted_cells_of(alloc, body)?;
             Ok((Back::Cells(cells), rest))
         }
         b'C' => {

@@ -1,27 +1,16 @@
 ghost use Rattle.std.specs.Prelude.{◌≡◌, ℕ, List, IfOk};
-ghost use Rattle.pg_wire.specs.Bodies.{startup_at, front_at, front_read};
+ghost use Rattle.pg_wire.specs.Bodies.{front_at, front_read};
 ghost use Rattle.pg_wire.specs.Readers.{Gives};
 ghost use Rattle.pg_wire.specs.Reading.{SpellsFront, ReadsAs, ReadsExactly};
 ghost use Rattle.pg_wire.specs.declared.front.Front.{Front};
 
-use crate::fields::{Unread, str_of, u32_of};
+use crate::fields::{Unread, str_of};
 use crate::frame::{Frame, ReadBody};
-use crate::front::{Front, PROTOCOL};
-use crate::lists::pairs_of;
+use crate::front::Front;
+use crate::startup::startup_of;
+use crate::statements::{bind_of, close_of, describe_of, execute_of, parse_of};
+use acra_base::Bytes;
 use std::alloc::Global;
-
-/// Reads a startup packet.
-#[tactic(auto, unfolding(crate::specs::Bodies::startup_at))]
-fn startup_of(alloc: Global, bytes: &[u8]) -> Result<(Front, &[u8]), Unread>
-    ensures { Gives (λ x. (x.0, x.1.now)) result (startup_at bytes.now) }
-{
-    let (code, rest) = u32_of(bytes)?;
-    if code != PROTOCOL {
-        return Err(Unread::At { left: bytes.len() });
-    }
-    let (params, rest) = pairs_of(alloc, rest)?;
-    Ok((Front::Startup { params }, rest))
-}
 
 /// Reads a client's message of this type at the front.
 fn front_of(alloc: Global, kind: u8, body: &[u8]) -> Result<(Front, &[u8]), Unread>
@@ -33,6 +22,14 @@ fn front_of(alloc: Global, kind: u8, body: &[u8]) -> Result<(Front, &[u8]), Unre
             let (text, rest) = str_of(alloc, body)?;
             Ok((Front::Query(text), rest))
         }
+        b'P' => parse_of(alloc, body),
+        b'B' => bind_of(alloc, body),
+        b'D' => describe_of(alloc, body),
+        b'E' => execute_of(alloc, body),
+        b'C' => close_of(alloc, body),
+        b'S' => Ok((Front::Sync, body)),
+        b'H' => Ok((Front::Flush, body)),
+        b'p' => Ok((Front::Password(Bytes::copied(alloc, body)?), &[])),
         b'X' => Ok((Front::Terminate, body)),
         _ => Err(Unread::At { left: body.len() }),
     }

@@ -1,4 +1,5 @@
 use super::*;
+use acra_base::Bytes;
 use std::alloc::Global;
 use std::process::Abort;
 use std::test::*;
@@ -47,21 +48,123 @@ fn server_messages(rt: HostRuntime) -> Result<(), Fail> {
     Ok(())
 }
 
+/// A client's frame of this type and body.
+fn client_frame(alloc: Global, kind: u8, body: &[u8]) -> Result<Frame, Fail> {
+    let body = Bytes::copied(alloc, body).ok().ok_or("no memory")?;
+    Ok(Frame {
+        offset: 0,
+        kind,
+        body,
+    })
+}
+
 #[test]
 fn client_messages(rt: HostRuntime) -> Result<(), Fail> {
-    let bytes = b"\0\0\0\x11\0\x03\0\0user\0bo\0\0Q\0\0\0\x06a\0X\0\0\0\x04";
-    let mut framer = Framer::new(rt.alloc(), Side::Client, 1000);
-    framer.feed(bytes.as_slice()).ok().ok_or("no memory")?;
-    let mut out = Vec::new(rt.alloc());
-    for _ in 0..3 {
-        let frame = framer.next().ok().ok_or("no frame")?.ok_or("half a frame")?;
+    // Parse of `s` with the types 23 and 0; Bind of the unnamed portal with a text and a binary format,
+    // NULL, the text `7` and the empty text, and binary results; the rest by the protocol's table.
+    let messages: [(u8, &[u8]); 16] = [
+        (0, b"\0\x03\0\0user\0bo\0\0"),
+        (0, b"\0\x03\0\0\0"),
+        (0, b"\x04\xd2\x16\x2f"),
+        (0, b"\x04\xd2\x16\x30"),
+        (0, b"\x04\xd2\x16\x2e\0\0\0\x01\xff\xff\xff\xff"),
+        (b'Q', b"a\0"),
+        (b'P', b"s\0SELECT $1\0\0\x02\0\0\0\x17\0\0\0\0"),
+        (
+            b'B',
+            b"\0s\0\0\x02\0\0\0\x01\0\x03\xff\xff\xff\xff\0\0\0\x017\0\0\0\0\0\x01\0\x01",
+        ),
+        (b'B', b"\0\0\0\0\0\0\0\0"),
+        (b'D', b"Ss\0"),
+        (b'E', b"p\0\0\0\0\x05"),
+        (b'C', b"P\0"),
+        (b'S', b""),
+        (b'H', b""),
+        (b'p', b"pass\0"),
+        (b'X', b""),
+    ];
+    for (kind, body) in messages {
+        let frame = client_frame(rt.alloc(), kind, body)?;
         assert!(rt; frame.body.len() < 1000);
         let Ok(message) = read_front(rt.alloc(), &frame) else {
             return Err("no message".into());
         };
+        let mut out = Vec::new(rt.alloc());
         write_front(&message, &mut out).ok().ok_or("no memory")?;
+        assert!(rt; out.ends_with(body), "type {kind}");
     }
-    assert_eq!(rt; out.as_slice(), bytes.as_slice());
+    Ok(())
+}
+
+#[test]
+fn bound_values(rt: HostRuntime) -> Result<(), Fail> {
+    let frame = client_frame(
+        rt.alloc(),
+        b'B',
+        b"p\0s\0\0\x01\0\x01\0\x02\0\0\0\x027x\xff\xff\xff\xff\0\0",
+    )?;
+    let Ok(
+        Front::Bind {
+            portal,
+            name,
+            formats,
+            values,
+            results,
+        },
+    ) = read_front(rt.alloc(), &frame)
+    else {
+        return Err("no bind".into());
+    };
+    assert!(rt; portal.as_slice() == b"p".as_slice() && name.as_slice() == b"s".as_slice());
+    assert_eq!(rt; formats.as_slice(), [1].as_slice());
+    let [Some(value), None] = values.as_slice() else {
+        return Err("not these values".into());
+    };
+    assert!(rt; value.as_slice() == b"7x".as_slice());
+    assert!(rt; results.is_empty());
+    Ok(())
+}
+
+#[test]
+fn client_places(rt: HostRuntime) -> Result<(), Fail> {
+    let cases: [(u8, &[u8], usize); 22] = [
+        // Another code, a name without a value, no terminator, an empty name with a value.
+        (0, b"\0\x02\0\0\0", 0),
+        (0, b"\0\x03\0\0user\0", 9),
+        (0, b"\0\x03\0\0user\0bo\0", 12),
+        (0, b"\0\x03\0\0\0bo\0\0", 5),
+        // A byte too many behind a request, a cancel's key cut short, and a byte too many.
+        (0, b"\x04\xd2\x16\x2f\0", 4),
+        (0, b"\x04\xd2\x16\x30\0", 4),
+        (0, b"\x04\xd2\x16\x2e\0\0\0\x01\0\0\0", 8),
+        (0, b"\x04\xd2\x16\x2e\0\0\0\x01\0\0\0\0\0", 12),
+        // A text without its zero byte, and a byte behind it.
+        (b'Q', b"ab", 0),
+        (b'Q', b"ab\0c", 3),
+        // A Parse with a count of 2 and one and a half types, and one with half a count.
+        (b'P', b"s\0t\0\0\x02\0\0\0\x17\0\0", 10),
+        (b'P', b"s\0t\0\0", 4),
+        // A Bind with a format of 2, a length of -2, a value's bytes cut short, a count of 32768, a
+        // format of results of 256, and a byte too many.
+        (b'B', b"\0\0\0\x01\0\x02\0\0\0\0", 4),
+        (b'B', b"\0\0\0\0\0\x01\xff\xff\xff\xfe\0\0", 6),
+        (b'B', b"\0\0\0\0\0\x01\0\0\0\x05abcd", 10),
+        (b'B', b"\0\0\0\0\x80\0\0\0\0\0\0\0", 10),
+        (b'B', b"\0\0\0\0\0\0\0\x01\x01\0", 8),
+        (b'B', b"\0\0\0\0\0\0\0\0\0", 8),
+        // A target that is none, no target at all, a limit cut short, and a byte too many.
+        (b'D', b"s\0", 0),
+        (b'C', b"", 0),
+        (b'E', b"p\0\0\0\0", 2),
+        (b'S', b"\0", 0),
+    ];
+    for (kind, body, place) in cases {
+        let frame = client_frame(rt.alloc(), kind, body)?;
+        assert!(rt;
+            matches!(read_front(rt.alloc(), &frame), Err(ReadBody::BodyFault { offset }) if offset == place),
+            "type {kind}, place {place}"
+        );
+    }
     Ok(())
 }
 

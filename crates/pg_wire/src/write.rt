@@ -4,8 +4,9 @@ ghost use Rattle.pg_wire.specs.Fronts.{IsFront, front_kind, front_body, front_fr
 ghost use Rattle.pg_wire.specs.Backs.{IsBack, back_kind, back_body, back_frame};
 
 use crate::back::Back;
-use crate::front::{Front, PROTOCOL};
-use crate::put::{put_cells, put_error_fields, put_fields, put_pair, put_pairs, put_str, put_u32};
+use crate::front::Front;
+use crate::put::{put_cells, put_error_fields, put_fields, put_pair, put_str, put_u32};
+use crate::put_front::put_front;
 use acra_base::NoMemory;
 use std::alloc::Global;
 
@@ -70,35 +71,33 @@ fn body_of_back(alloc: Global, message: &Back) -> Result<Vec<u8>, NoMemory>
     }
 }
 
-/// The type byte of a client's message, 0 for the startup packet.
+/// The type byte of a client's message, 0 for a startup packet.
 fn kind_of_front(message: &Front) -> u8
     ensures { result ≡ front_kind message.now }
 {
     match message {
-        Front::Startup { .. } => 0,
+        Front::Startup { .. } | Front::SslRequest | Front::GssRequest | Front::Cancel { .. } => 0,
         Front::Query(_) => b'Q',
+        Front::Parse { .. } => b'P',
+        Front::Bind { .. } => b'B',
+        Front::Describe { .. } => b'D',
+        Front::Execute { .. } => b'E',
+        Front::Close { .. } => b'C',
+        Front::Sync => b'S',
+        Front::Flush => b'H',
+        Front::Password(_) => b'p',
         Front::Terminate => b'X',
     }
 }
 
 /// The body of a client's message.
 fn body_of_front(alloc: Global, message: &Front) -> Result<Vec<u8>, NoMemory>
+    requires { IsFront message.now }
     ensures { IfOk result (λ body. body.items ≡ front_body message.now) }
 {
     let mut body = Vec::new(alloc);
-    match message {
-        Front::Startup { params } => {
-            put_u32(PROTOCOL, &mut body)?;
-            put_pairs(params.as_slice(), &mut body)?;
-            body.push(0)?;
-            Ok(body)
-        }
-        Front::Query(text) => {
-            put_str(text, &mut body)?;
-            Ok(body)
-        }
-        Front::Terminate => Ok(body),
-    }
+    put_front(message, &mut body)?;
+    Ok(body)
 }
 
 /// A frame of this type and body.

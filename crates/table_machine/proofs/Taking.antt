@@ -17,18 +17,18 @@ use Rattle.pg_wire.proofs.FrameLaws.{one_frame, fault_is_no_frame}
 pub placed : (opening : Bool) (limit : ℕ) (request : Front) → IsFrame side.Client limit opening (front_kind request) (front_body request) → IsServed request → IsRequest opening request
 placed true limit (fronts.Startup params) h s = tt
 placed true limit (fronts.Query text) h s = absurd (omega (arith, h.0))
-placed true limit fronts.Terminate h s = s
+placed true limit _ h s = absurd s
 placed false limit (fronts.Startup params) h s = absurd (cc (h.0))
 placed false limit (fronts.Query text) h s = tt
-placed false limit fronts.Terminate h s = s
+placed false limit _ h s = absurd s
 
 pub served : (opening : Bool) (request : Front) → IsRequest opening request → IsServed request
 served true (fronts.Startup params) h = tt
 served true (fronts.Query text) h = tt
-served true fronts.Terminate h = h
+served true _ h = absurd h
 served false (fronts.Startup params) h = tt
 served false (fronts.Query text) h = tt
-served false fronts.Terminate h = h
+served false _ h = absurd h
 
 -- the frame at the front, with its parts
 begun : (s : Stream) (kind : ℕ) (body rest : List ℕ) (request : Front) → IsFrame side.Client s.limit s.opening kind body → s.left ≡ frame_bytes kind body ++ rest

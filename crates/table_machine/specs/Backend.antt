@@ -78,7 +78,7 @@ pub record Answers (text : List ℕ) (rows : List (List Cell)) (messages : List 
 abbrev pub Replies : ℕ → Front → List (List Cell) → List Back → List (List Cell) → Type 0
 Replies session (fronts.Startup params) rows messages after = (messages ≡ startup_messages session) × (after ≡ rows)
 Replies session (fronts.Query text) rows messages after = Answers text rows messages after
-Replies session fronts.Terminate rows messages after = ⊥
+Replies session _ rows messages after = ⊥
 
 -- the oldest request was executed, and its reply appended
 pub record Executes (lab after : Lab) (old new : List ℕ) : Type 0 where

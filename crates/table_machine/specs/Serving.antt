@@ -20,7 +20,7 @@ use Rattle.table_machine.specs.Backend.{IsRequest, Replies}
 abbrev pub IsServed : Front → Type 0
 IsServed (fronts.Startup params) = Unit {0}
 IsServed (fronts.Query text) = Unit {0}
-IsServed fronts.Terminate = ⊥
+IsServed _ = ⊥
 
 -- a request that stands at the front of a client's stream, and what follows it
 pub record Begins (stream : Stream) (request : Front) (rest : List ℕ) : Type 0 where

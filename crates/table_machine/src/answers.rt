@@ -23,19 +23,19 @@ pub fn answer_request(
     alloc: Global,
     tables: &mut Tables,
     session: u16,
-    request: &Front,
+    request: Front,
     out: &mut Vec<u8>,
 ) -> Result<(), NoMemory>
-    requires served { IsServed request.now }
+    requires served { IsServed request }
     requires short { AreShort tables.old }
-    ensures ok { OnOk result (Replied session request.now tables.old tables.new out.old.items out.new.items) }
-    ensures err { OnErr result (MayReply session request.now tables.old tables.new) }
+    ensures ok { OnOk result (Replied session request tables.old tables.new out.old.items out.new.items) }
+    ensures err { OnErr result (MayReply session request tables.old tables.new) }
     ensures short { AreShort tables.new }
 {
     match request {
-        Front::Startup { .. } => write_startup(alloc, session, out),
+        Front::Startup { params: _params } => write_startup(alloc, session, out),
         Front::Query(text) => answer_text(alloc, tables, text.as_slice(), out),
-        Front::Terminate => unreachable!(),
+        _ => unreachable!(),
     }
 }
 

@@ -74,7 +74,7 @@ impl LabBackend {
                     self.alloc,
                     &mut self.tables,
                     self.session,
-                    &request,
+                    request,
                     &mut reply,
                 )?;
                 out.extend_from_slice(&reply)?;

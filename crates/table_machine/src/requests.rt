@@ -36,8 +36,8 @@ fn read_request(alloc: Global, frame: &Frame) -> Result<Next, NoMemory>
     ensures { ReadsRequest frame.now.kind frame.now.body result }
 {
     match read_front(alloc, frame) {
-        Ok(Front::Terminate) => Ok(Next::Over),
-        Ok(request) => Ok(Next::Request(request)),
+        Ok(request @ (Front::Startup { .. } | Front::Query(_))) => Ok(Next::Request(request)),
+        Ok(_) => Ok(Next::Over),
         Err(ReadBody::BodyFault { .. }) => Ok(Next::Over),
         Err(ReadBody::NoMemory) => Err(NoMemory),
     }

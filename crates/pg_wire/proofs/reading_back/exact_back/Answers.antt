@@ -1,5 +1,5 @@
 use Rattle.std.proofs.Common.{Ok, arith}
-use Rattle.pg_wire.proofs.Messages.{back_spelled}
+use Rattle.pg_wire.proofs.BackMessages.{back_spelled}
 use Rattle.pg_wire.proofs.Readings.{back_only, back_offset, back_unspelled}
 use Rattle.pg_wire.proofs.Within.{back_left}
 use Rattle.pg_wire.proofs.reading_back.exact_back.Goals as goal

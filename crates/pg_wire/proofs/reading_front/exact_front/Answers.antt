@@ -1,5 +1,5 @@
 use Rattle.std.proofs.Common.{Ok, arith}
-use Rattle.pg_wire.proofs.Messages.{front_spelled}
+use Rattle.pg_wire.proofs.FrontMessages.{front_spelled}
 use Rattle.pg_wire.proofs.Readings.{front_only, front_offset, front_unspelled}
 use Rattle.pg_wire.proofs.Within.{front_left}
 use Rattle.pg_wire.proofs.reading_front.exact_front.Goals as goal

@@ -1,7 +1,7 @@
 use Rattle.std.proofs.lemmas.Result.{err_from_is_err_and}
 use Rattle.pg_wire.specs.Bodies.{cell_at, items_at}
 use Rattle.pg_wire.proofs.Loops.{goes_on, fails, is_done}
-use Rattle.pg_wire.proofs.columns.cells_of.Goals as goal
+use Rattle.pg_wire.proofs.counted.cells_of.Goals as goal
 
 pub returns-in_err-cell : goal.returns-in_err-cell
 returns-in_err-cell c =

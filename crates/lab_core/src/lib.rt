@@ -25,4 +25,6 @@ pub use status::Status;
 pub use top::lab_top;
 
 #[cfg(test)]
+mod stored_tests;
+#[cfg(test)]
 mod tests;

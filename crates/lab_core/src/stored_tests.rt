@@ -1,0 +1,148 @@
+ghost use Rattle.std.specs.Prelude.{◌≡◌, []};
+ghost use Rattle.table_machine.specs.Backend.{new_lab};
+
+use super::*;
+use crate::words::client_key;
+use acra_base::{ClientId, SureLink};
+use std::alloc::Global;
+use std::test::Fail;
+use table_machine::{LabBackend, Tables};
+
+/// The startup message of the client app, and an INSERT of a string that is quoted so.
+const STARTUP: &[u8] = b"\x00\x00\x00\x12\x00\x03\x00\x00user\x00app\x00\x00";
+
+const INSERT: &[u8] = b"Q\x00\x00\x00\x35INSERT INTO notes (id, body) VALUES (1, 'it''s')\x00";
+
+/// Where the reply to the startup message ends, and how long the reply to an INSERT is.
+const STARTED: usize = 90;
+
+const INSERTED: usize = 22;
+
+/// A RowDescription of the column body as the backend stores it: bytea, of varying size.
+const DESCRIBED: &[u8] = b"T\x00\x00\x00\x1d\x00\x01body\x00\x00\x00\x40\x00\x00\x02\
+    \x00\x00\x00\x11\xff\xff\xff\xff\xff\xff\x00\x00";
+
+/// A DataRow of one cell of 234 bytes: `\x` and the digits of a container of 116 bytes.
+const ROW: &[u8] = b"D\x00\x00\x00\xf4\x00\x01\x00\x00\x00\xea\\x";
+
+/// The containers of two values `it's` for the client app and the seed 1: the header; the nonce of the
+/// data key's seal, and the seal; the nonce of the value's seal, and the seal. The client's key is
+/// bytes 96 to 128 of OpenSSL's key stream for the key 1, 0, 0, .. . The first container takes bytes
+/// 160 to 216 of it: 32 of data key, 12 of nonce, 12 of nonce; the second one bytes 216 to 272.
+const FIRST: &[u8] = b"222222226800000000000000000100000000000000003c00\
+    a3e2edc43e1057b25345acd3\
+    488c00707d8dac7308937d2a023551028f6ec69fcb244d547444569163f6b536\
+    54545454545454545454545454545454\
+    350a0029dd74f39cd4f2f8a9\
+    941873b254545454545454545454545454545454";
+
+const SECOND: &[u8] = b"222222226800000000000000000100000000000000003c00\
+    e026b65c5da3a3b02cb33448\
+    f25545ef9ddc405a62a454dd29449cf03eaf6dbdcbf6307e3a0104c96824f9e2\
+    54545454545454545454545454545454\
+    7f6949e8d2edfbc555c0324f\
+    2766247454545454545454545454545454545454";
+
+const TAG: &[u8] = b"C\x00\x00\x00\x0dSELECT 2\x00Z\x00\x00\x00\x05I";
+
+fn joined(alloc: Global, parts: &[&[u8]]) -> Result<Vec<u8>, Fail> {
+    let mut bytes = Vec::new(alloc);
+    'parts: for part in parts {
+        bytes.extend_from_slice(part)?;
+    }
+    Ok(bytes)
+}
+
+/// A session of the client app with the seed 1 over this backend: how it ends, and what was sent.
+fn session(
+    alloc: Global,
+    backend: &mut LabBackend,
+    input: Vec<u8>,
+) -> Result<(Status, Vec<u8>), Fail>
+    requires { backend.old ≡ new_lab 1 [] }
+{
+    let who = ClientId::read(b"app")?;
+    let (key, mut random) = client_key(1);
+    let mut input = SureLink::new(alloc, input);
+    let mut output = SureLink::new(alloc, Vec::new(alloc));
+    let end = first_session(
+        alloc,
+        &mut input,
+        &mut output,
+        &mut random,
+        &who,
+        &key,
+        backend,
+    );
+    Ok((end, Vec::from_slice(alloc, output.taken())?))
+}
+
+#[test]
+fn stored_cells(rt: HostRuntime) -> Result<(), Fail> {
+    let alloc = rt.alloc();
+    let mut backend = LabBackend::new(alloc, Tables::new(alloc), 1);
+    let input = joined(alloc, &[STARTUP, INSERT, INSERT])?;
+    let (end, sent) = session(alloc, &mut backend, input)?;
+    assert_eq!(rt; end, Status::Done);
+    assert_eq!(rt; sent.len(), STARTED + 2 * INSERTED);
+
+    // The backend itself, asked past the session.
+    backend.feed(b"Q\x00\x00\x00\x1bSELECT body FROM notes\x00")?;
+    let mut reply = Vec::new(alloc);
+    assert!(rt; backend.execute(&mut reply)?);
+    let stored = joined(alloc, &[DESCRIBED, ROW, FIRST, ROW, SECOND, TAG])?;
+    assert_eq!(rt; reply.as_slice(), stored.as_slice());
+    Ok(())
+}
+
+/// Appends an INSERT of a string without a quote.
+fn push_insert(message: &mut Vec<u8>, value: &[u8]) -> Result<(), Fail> {
+    let front: &[u8] = b"INSERT INTO notes VALUES (1, '";
+    let length = u32::try_from(front.len().saturating_add(value.len()))?.saturating_add(7);
+    message.push(b'Q')?;
+    message.extend_from_slice(&length.to_be_bytes())?;
+    message.extend_from_slice(front)?;
+    message.extend_from_slice(value)?;
+    message.extend_from_slice(b"')\x00")?;
+    Ok(())
+}
+
+/// Appends a DataRow of one cell.
+fn push_row(message: &mut Vec<u8>, value: &[u8]) -> Result<(), Fail> {
+    let length = u32::try_from(value.len())?;
+    message.push(b'D')?;
+    message.extend_from_slice(&length.saturating_add(10).to_be_bytes())?;
+    message.extend_from_slice(b"\x00\x01")?;
+    message.extend_from_slice(&length.to_be_bytes())?;
+    message.extend_from_slice(value)?;
+    Ok(())
+}
+
+#[test]
+fn owner_reads_back(rt: HostRuntime) -> Result<(), Fail> {
+    let alloc = rt.alloc();
+    let mut long = Vec::new(alloc);
+    'bytes: for _ in 0..1 << 18 {
+        long.push(b'a')?;
+    }
+    // The first and the last code point of each length of UTF-8, without the zero byte.
+    let points: &[u8] =
+        b"\x01\x7f\xc2\x80\xdf\xbf\xe0\xa0\x80\xef\xbf\xbf\xf0\x90\x80\x80\xf4\x8f\xbf\xbf";
+    let values: [&[u8]; 4] = [b"", b"a", &long, points];
+    let mut input = Vec::from_slice(alloc, STARTUP)?;
+    let mut rows = Vec::new(alloc);
+    'values: for value in values {
+        push_insert(&mut input, value)?;
+        push_row(&mut rows, value)?;
+    }
+    input.extend_from_slice(b"Q\x00\x00\x00\x1bSELECT body FROM notes\x00")?;
+    rows.extend_from_slice(b"C\x00\x00\x00\x0dSELECT 4\x00Z\x00\x00\x00\x05I")?;
+
+    let mut backend = LabBackend::new(alloc, Tables::new(alloc), 1);
+    let (end, sent) = session(alloc, &mut backend, input)?;
+    assert_eq!(rt; end, Status::Done);
+    // 30 bytes of RowDescription stand before the rows.
+    assert_eq!(rt; sent.len(), STARTED + 4 * INSERTED + 30 + rows.len());
+    assert!(rt; sent.ends_with(&rows));
+    Ok(())
+}

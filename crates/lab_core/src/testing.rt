@@ -20,6 +20,9 @@ pub const TLS: &[u8] = b"\x00\x00\x00\x08\x04\xd2\x16\x2f";
 /// A request for encryption by GSSAPI, 8 bytes.
 pub const GSS: &[u8] = b"\x00\x00\x00\x08\x04\xd2\x16\x30";
 
+/// A request that another connection's request be cancelled, 16 bytes.
+pub const CANCEL: &[u8] = b"\x00\x00\x00\x10\x04\xd2\x16\x2e\x00\x00\x00\x01\x00\x00\x00\x00";
+
 /// The end of the session, 5 bytes.
 pub const TERMINATE: &[u8] = b"X\x00\x00\x00\x04";
 
@@ -94,6 +97,7 @@ impl<'a> Source for Pieces<'a> {
     }
 }
 
+/// The words, each as a string.
 pub fn spoken(alloc: Global, words: &[&str]) -> Result<Vec<String>, Fail> {
     let mut spoken = Vec::new(alloc);
     'words: for word in words {
@@ -110,6 +114,7 @@ pub fn session<S: Source>(alloc: Global, input: &mut S) -> Result<(Status, Vec<u
     Ok((status, Vec::from_slice(alloc, output.taken())?))
 }
 
+/// The parts, one behind the other.
 pub fn joined(alloc: Global, parts: &[&[u8]]) -> Result<Vec<u8>, Fail> {
     let mut bytes = Vec::new(alloc);
     'parts: for part in parts {

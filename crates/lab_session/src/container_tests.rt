@@ -1,5 +1,5 @@
-use crate::key::client_key;
 use crate::container::{open_container, seal_container};
+use crate::key::client_key;
 use crate::opening::KEY_ID;
 use acra_base::TrialAead;
 use std::alloc::Global;

@@ -5,28 +5,28 @@ use thiserror::Error;
 #[derive(Clone, Copy, Debug, PartialEq, Eq, Error)]
 pub enum Status {
     /// The input was read to its end at a message's end, or to Terminate.
-    #[error("done")]
+    #[error("Done")]
     Done,
     /// The words are not `session CLIENT SEED`.
-    #[error("usage: acra_lab session CLIENT SEED")]
+    #[error("Usage: acra_lab session CLIENT SEED")]
     Usage,
     /// The message at this offset is no frame or spells no message, or may not stand there.
-    #[error("the client's message at byte {offset}: {kind}")]
+    #[error("BadClient: the client's message at byte {offset}: {kind}")]
     BadClient { offset: u64, kind: MessageFault },
     /// The input ended at this offset, inside a message.
-    #[error("the input ended at byte {offset}, inside a message")]
+    #[error("ClientCut: the input ended at byte {offset}, inside a message")]
     ClientCut { offset: u64 },
     /// A read of the input failed.
-    #[error("reading the input failed")]
+    #[error("ReadFault: reading the input failed")]
     ReadFault,
     /// A write of the output failed.
-    #[error("writing the output failed")]
+    #[error("WriteFault: writing the output failed")]
     WriteFault,
     /// There was no memory.
-    #[error("out of memory")]
+    #[error("NoMemory: out of memory")]
     NoMemory,
     /// 2^48 bytes were read.
-    #[error("the input is longer than 2^48 bytes")]
+    #[error("Spent: the input is longer than 2^48 bytes")]
     Spent,
 }
 

@@ -1,4 +1,4 @@
-use Rattle.lab_core.specs.Words.{client_drawn}
+use Rattle.lab_session.specs.ClientKey.{client_drawn}
 use Rattle.lab_core.proofs.Worked.{example_splits, example_over, example_answers}
 use Rattle.lab_core.proofs.example.example_replies.Goals as goal
 

@@ -6,9 +6,6 @@ use std::alloc::Global;
 use std::process::Abort;
 use std::test::Fail;
 
-/// A stream in parts, how the session ends, and the parts of what is sent.
-type Case<'a> = (&'a [&'a [u8]], Status, &'a [&'a [u8]]);
-
 fn bad(offset: u64, kind: MessageFault) -> Status {
     Status::BadClient { offset, kind }
 }
@@ -41,13 +38,6 @@ fn try_one(
     let (status, sent) = session(alloc, &mut SureLink::new(alloc, input.clone()?))?;
     assert_eq!(rt; status, end, "at {input:?}");
     assert_eq!(rt; sent.as_slice(), want.as_slice(), "at {input:?}");
-    Ok(())
-}
-
-fn try_all(rt: &impl Abort, alloc: Global, cases: &[Case]) -> Result<(), Fail> {
-    'cases: for (parts, end, replies) in cases {
-        try_one(rt, alloc, parts, *end, replies)?;
-    }
     Ok(())
 }
 
@@ -142,7 +132,7 @@ fn declined_encryption(rt: HostRuntime) -> Result<(), Fail> {
     let started = &REPLIES[..90];
     let empty: &[u8] = b"\x00\x00\x00\x09\x00\x03\x00\x00\x00";
     let short = framed(8, FrameFault::BadLength(7));
-    let cases: [Case; 6] = [
+    let cases: [(&[&[u8]], Status, &[&[u8]]); 6] = [
         (&[TLS], Status::Done, &[b"N"]),
         (&[TLS, STARTUP, TERMINATE], Status::Done, &[b"N", started]),
         (&[GSS, TLS, empty], Status::Done, &[b"N", b"N", started]),
@@ -150,7 +140,10 @@ fn declined_encryption(rt: HostRuntime) -> Result<(), Fail> {
         (&[TLS, b"\x00\x00\x00\x07"], short, &[b"N"]),
         (&[GSS, CANCEL], bad(8, MessageFault::Place), &[b"N"]),
     ];
-    try_all(&rt, rt.alloc(), &cases)
+    'cases: for (parts, end, replies) in cases {
+        try_one(&rt, rt.alloc(), parts, end, replies)?;
+    }
+    Ok(())
 }
 
 #[test]
@@ -166,7 +159,7 @@ fn refused_statements(rt: HostRuntime) -> Result<(), Fail> {
     let two: &[u8] = b"Q\x00\x00\x00\x1cSELECT body FROM notes;\x00";
     let no_text: &[u8] = b"Q\x00\x00\x00\x07\xff\xfe\x00";
     let unknown = framed(51, FrameFault::UnknownType(122));
-    let cases: [Case; 7] = [
+    let cases: [(&[&[u8]], Status, &[&[u8]]); 7] = [
         (&[STARTUP, CREATE], Status::Done, &[started, REFUSED]),
         (
             &[STARTUP, empty, SELECT],
@@ -188,5 +181,8 @@ fn refused_statements(rt: HostRuntime) -> Result<(), Fail> {
             &[b"N", started, REFUSED],
         ),
     ];
-    try_all(&rt, rt.alloc(), &cases)
+    'cases: for (parts, end, replies) in cases {
+        try_one(&rt, rt.alloc(), parts, end, replies)?;
+    }
+    Ok(())
 }

@@ -1,0 +1,5 @@
+mod Cutting
+mod Pieces
+mod Formed
+mod Spelled
+mod Sealed

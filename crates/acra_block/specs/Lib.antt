@@ -1,0 +1,4 @@
+pub mod Keys
+pub mod Containers
+pub mod Characters
+pub mod Cells

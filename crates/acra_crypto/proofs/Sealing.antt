@@ -1,5 +1,5 @@
 -- What sealing and unsealing append, from the steps that make it.
-use Rattle.std.proofs.Common.{◌≡◌, ℕ, ◌<◌, ◌-◌, List, ◌++◌, length, refl, sym, ap, ◌∙◌, arith, w32, true, false, Bool, Some, length-drop}
+use Rattle.std.proofs.Common.{◌≡◌, ℕ, ◌<◌, ◌-◌, List, ◌++◌, length, refl, sym, ap, ◌∙◌, arith, w32, true, false, Some, length-drop}
 use Rattle.std.specs.Prelude.{nat_eq}
 use Rattle.std.proofs.lemmas.Bool.{false_from_ne_true}
 use Rattle.std.specs.Cmp.Lexicographic.{pointwise, same_text}

@@ -1,11 +1,11 @@
 -- The laws of seals: a seal is 16 bytes longer than its value, opens to it, and is all that opens to it.
-use Rattle.std.specs.Prelude.{ℕ, zero, suc, ◌≡◌, ◌+◌, ◌*◌, ◌/◌, ◌<◌, ◌≤◌, List, [], ◌∷◌, ◌++◌, length, take, drop, slice_index, bit_xor, ◌-◌, nat_eq, Option, Some}
+use Rattle.std.specs.Prelude.{ℕ, zero, suc, ◌≡◌, ◌+◌, ◌*◌, ◌/◌, ◌<◌, ◌≤◌, List, [], ◌∷◌, ◌++◌, length, take, drop, slice_index, bit_xor, ◌-◌, nat_eq, Some}
 use Rattle.std.specs.Cmp.Lexicographic.{pointwise, same_text}
 use Rattle.std.proofs.Common.{refl, sym, ap, ◌∙◌, arith, inl, inr, length-append, true}
 use Rattle.std.proofs.lemmas.Bool.{cases_lt, eq-eqb}
 use Rattle.std.proofs.lemmas.List.{append-nil, take_at, drop_at, take_all, drop_all, take-append-drop, length-take-le}
 use Rattle.std.proofs.lemmas.Option.{cond_some}
-use Rattle.std.proofs.Math.Seq.{take-add, drop-append_seam, take-append_seam}
+use Rattle.std.proofs.Math.Seq.{take-add, drop-append_seam}
 use lib.Bits.{xor_assoc, xor_self, xor_zero_r}
 use Rattle.acra_crypto.specs.Gcm.{xor_bytes, masked, inc32, gctr, block_count, tag, gcm_sealed, gcm_opened, body_of, tag_of, with_tag, first_counter}
 

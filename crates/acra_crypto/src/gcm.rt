@@ -47,7 +47,7 @@ fn masked_copy(
 /// A seal is the ciphertext and its tag. A nonce serves one seal under a key. The standard gives
 /// values of up to 2^36 - 32 bytes a seal; a longer one is sealed by the same steps, with a count
 /// of blocks that goes round.
-#[derive(Clone, Copy)]
+#[derive(Clone, Copy, Debug)]
 pub struct Aes256Gcm;
 
 impl Aead for Aes256Gcm {

@@ -1,4 +1,4 @@
-use Rattle.std.proofs.Common.{ap, ◌∙◌, sym, refl, arith, Bool, not, true, false, ◌≡◌, ◌++◌, List, ℕ}
+use Rattle.std.proofs.Common.{ap, ◌∙◌, sym, arith, true, false, ◌≡◌, ◌++◌, List, ℕ}
 use Rattle.acra_crypto.specs.Words.{bytes_of}
 use Rattle.acra_crypto.specs.Aes.{aes256, encrypted}
 use Rattle.acra_crypto.proofs.Sealing.{unseal_short, unseal_other, unseal_made}

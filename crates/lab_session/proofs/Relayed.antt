@@ -46,7 +46,15 @@ type_is (backs.Ready b) = refl
 type_is (backs.Row fields) = refl
 type_is (backs.Cells cells) = refl
 type_is (backs.Complete tag) = refl
+type_is backs.EmptyQuery = refl
 type_is (backs.Error fields) = refl
+type_is (backs.Notice fields) = refl
+type_is backs.ParseDone = refl
+type_is backs.BindDone = refl
+type_is backs.CloseDone = refl
+type_is backs.NoData = refl
+type_is (backs.Params types) = refl
+type_is backs.Suspended = refl
 
 pub framed : (m : Back) → IsWritable m → IsFrame side.Backend reply_limit false (back_kind m) (back_body m)
 framed m w = (type_is m, omega (arith, w.short), omega (arith, w.short))
@@ -126,6 +134,9 @@ no_fault s (m ∷ ms) fault h f =
 
 pub gave : (s t : Stream) (found : Option Frame) (frame : Frame) → found ≡ Some frame → Gives s (Ok found) t → GivesFrame s frame t
 gave s t found frame e h = subst (λ (o : Option Frame). Gives s (Ok o) t) e h
+
+pub gave_none : (s t : Stream) (found : Option Frame) (messages : List Back) → found ≡ None → Gives s (Ok found) t → Holds s messages → NextIs None messages t
+gave_none s t found messages e g h = none_left s t messages (subst (λ (o : Option Frame). Gives s (Ok o) t) e g).0 h
 
 pub gave_fault : (s t : Stream) (messages : List Back) (why : NextFault) (offset : ℕ) (fault : FrameFault) → why ≡ next.Frame offset fault → Gives s (Err why) t → Holds s messages → ⊥
 gave_fault s t messages why offset fault e g h = no_fault s messages fault h (subst (λ (w : NextFault). Gives s (Err w) t) e g).1

@@ -5,7 +5,7 @@ use Rattle.std.proofs.lemmas.Bool.{eqb-true, or_cases}
 use Rattle.std.proofs.lemmas.List.{append-nil}
 use Rattle.pg_wire.specs.declared.back.Back.{Back}
 use Rattle.pg_wire.specs.declared.back.Back.TheVariants as backs
-use Rattle.pg_wire.specs.Parts.{str, pair_bytes, IsCell, cell_bytes, counted_items, listed_items}
+use Rattle.pg_wire.specs.Parts.{str, pair_bytes, IsWord, IsCell, cell_bytes, counted_items, listed_items}
 use Rattle.pg_wire.specs.Backs.{IsField, field_bytes, IsErrorField, error_bytes, IsState, IsBack, back_kind, back_body}
 use Rattle.pg_wire.specs.Reading.{SpellsBack}
 use Rattle.pg_wire.specs.Bodies.{◌>>=◌, number_at, str_at, pair_at, field_at, cell_at, error_at, state_at, counted_at, listed_at, alone, auth_at, key_data_at, back_at, back_read}
@@ -13,7 +13,7 @@ use Rattle.pg_wire.proofs.Shorter.{bind_ok, ok_is}
 use Rattle.pg_wire.proofs.Numbers.{IsBytes, Takes, Takes-then, wide32, number_takes, number_again}
 use Rattle.pg_wire.proofs.Texts.{str_takes, str_again, pair_takes, pair_again}
 use Rattle.pg_wire.proofs.Items.{counted_takes, counted_again, listed_takes, listed_again}
-use Rattle.pg_wire.proofs.RowLaws.{field_item, cell_item, error_item}
+use Rattle.pg_wire.proofs.RowLaws.{field_item, word_item, cell_item, error_item}
 use Rattle.pg_wire.proofs.Arms.{Arm, arm_or, no_arm, arm_of, whole, read_alone, made_alone}
 
 abbrev BackArm : ℕ → List ℕ → Result (Back × List ℕ) ℕ → Type 0
@@ -59,6 +59,12 @@ state_takes (b ∷ body) x fits e = by (is_state b) (state_of b) e where
   by true is h = subst (λ (y : ℕ × List ℕ). IsState y.0 × Takes (b ∷ body) (y.0 ∷ []) y.1) (ok_is (b, body) x h) (is refl, record { parts = refl; rest_fits = λ i. fits (suc i) })
   by false is h = absurd cc
 
+-- a message without a body
+empty_arm : (k : ℕ) (m : Back) (body : List ℕ) → IsBytes body → IsBack m → k ≡ back_kind m → back_body m ≡ [] → BackArm k body (Ok (m, body))
+empty_arm k m body fits is kind none =
+    let all : Takes body (back_body m) body = rw none (record { parts = refl; rest_fits = fits }) in
+    record { spells = λ x e. subst (λ (y : Back × List ℕ). IsBack y.0 × (k ≡ back_kind y.0) × Takes body (back_body y.0) y.1) (ok_is (m, body) x e) (is, kind, all) }
+
 back_arms : (kind : ℕ) (body : List ℕ) → IsBytes body → BackArm kind body (back_at kind body)
 back_arms kind body fits =
     arm_or (auth_arm body fits)
@@ -69,7 +75,15 @@ back_arms kind body fits =
     (arm_or (arm_of 68 body backs.Cells (counted_at cell_at body) (λ x e. let t = counted_takes cell_at cell_bytes IsCell cell_item body x fits e in (t.1, refl, t.0)))
     (arm_or (arm_of 67 body backs.Complete (str_at body) (λ x e. let t = str_takes body x fits e in (t.1, refl, t.0)))
     (arm_or (arm_of 69 body backs.Error (listed_at error_at body) (λ x e. let t = listed_takes error_at error_bytes IsErrorField error_item body x fits e in (t.1, refl, t.0)))
-    no_arm)))))))
+    (arm_or (empty_arm 73 backs.EmptyQuery body fits tt refl refl)
+    (arm_or (arm_of 78 body backs.Notice (listed_at error_at body) (λ x e. let t = listed_takes error_at error_bytes IsErrorField error_item body x fits e in (t.1, refl, t.0)))
+    (arm_or (empty_arm 49 backs.ParseDone body fits tt refl refl)
+    (arm_or (empty_arm 50 backs.BindDone body fits tt refl refl)
+    (arm_or (empty_arm 51 backs.CloseDone body fits tt refl refl)
+    (arm_or (empty_arm 110 backs.NoData body fits tt refl refl)
+    (arm_or (arm_of 116 body backs.Params (counted_at (number_at w32) body) (λ x e. let t = counted_takes (number_at w32) (to_be_bytes w32) IsWord word_item body x fits e in (t.1, refl, t.0)))
+    (arm_or (empty_arm 115 backs.Suspended body fits tt refl refl)
+    no_arm)))))))))))))))
 
 -- what is read is spelled so
 pub back_spelled : (kind : ℕ) (body : List ℕ) (m : Back) → IsBytes body → back_read kind body ≡ Ok m → SpellsBack kind body m
@@ -106,6 +120,18 @@ back_again (backs.Cells cells) is =
     let text = counted_items cell_bytes cells in
     made_alone backs.Cells (counted_at cell_at text) cells (read_alone (counted_at cell_at) text cells (counted_again cell_at cell_bytes IsCell cell_item cells [] is))
 back_again (backs.Complete tag) is = made_alone backs.Complete (str_at (str tag)) tag (read_alone str_at (str tag) tag (str_again tag [] is))
+back_again backs.EmptyQuery is = refl
 back_again (backs.Error fields) is =
     let text = listed_items error_bytes fields in
     made_alone backs.Error (listed_at error_at text) fields (read_alone (listed_at error_at) text fields (listed_again error_at error_bytes IsErrorField error_item fields [] is))
+back_again (backs.Notice fields) is =
+    let text = listed_items error_bytes fields in
+    made_alone backs.Notice (listed_at error_at text) fields (read_alone (listed_at error_at) text fields (listed_again error_at error_bytes IsErrorField error_item fields [] is))
+back_again backs.ParseDone is = refl
+back_again backs.BindDone is = refl
+back_again backs.CloseDone is = refl
+back_again backs.NoData is = refl
+back_again (backs.Params types) is =
+    let text = counted_items (to_be_bytes w32) types in
+    made_alone backs.Params (counted_at (number_at w32) text) types (read_alone (counted_at (number_at w32)) text types (counted_again (number_at w32) (to_be_bytes w32) IsWord word_item types [] is))
+back_again backs.Suspended is = refl

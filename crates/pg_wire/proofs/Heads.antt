@@ -1,5 +1,5 @@
 -- The head of a message, from that of what follows its type byte.
-use Rattle.std.proofs.Common.{◌≡◌, ℕ, zero, suc, ◌≤◌, true, false, List, [], ◌∷◌, ◌++◌, length, get_or, take, drop, ◌-◌, refl, ap, subst, ◌∙◌, arith}
+use Rattle.std.proofs.Common.{◌≡◌, ℕ, zero, suc, ◌≤◌, true, false, List, [], ◌∷◌, ◌++◌, length, get_or, take, drop, ◌-◌, refl, sym, ap, subst, ◌∙◌, arith}
 use Rattle.std.proofs.lemmas.Bool.{ne_eqb}
 use Rattle.std.proofs.lemmas.List.{take_rest}
 use Rattle.pg_wire.specs.declared.frame.Side.{Side}
@@ -44,3 +44,16 @@ pub message_head_at : (who : Side) (limit : ℕ) (bytes : List ℕ) (head : Head
 message_head_at who limit [] head some typed h = absurd (omega arith)
 message_head_at who limit (t ∷ rest) head some typed h =
     message_head_is who limit t rest head typed (subst (λ (r : List ℕ). IsCounted t 4 limit r head) (take_rest (t ∷ rest) 1) h)
+
+-- the head of a startup packet, which has no type byte
+no_startup : (who : Side) (limit : ℕ) (bytes : List ℕ) → IsCountedShort 8 10000 bytes → (kind : ℕ) (body after : List ℕ) → IsFrame who limit true kind body → bytes ≡ frame_bytes kind body ++ after → ⊥
+no_startup who limit bytes short kind body after is e =
+    let whole : frame_bytes kind body ≡ counted body = rw (is.0) refl in
+    short.no_body body after (record { least_kept = omega (arith, is.1); most_kept = is.2; fits = omega (arith, is.2) }) (e ∙ ap (λ (xs : List ℕ). xs ++ after) whole)
+
+pub startup_head_is : (who : Side) (limit : ℕ) (bytes : List ℕ) (head : Head) → IsCounted 0 8 10000 bytes head → IsHead who limit true bytes head
+startup_head_is who limit bytes (heads.Whole kind body after) h =
+    let whole : frame_bytes kind body.now ≡ counted body.now = rw (h.0) refl in
+    ((h.0, omega (arith, h.1.least_kept), h.1.most_kept), h.2 ∙ ap (λ (xs : List ℕ). xs ++ after.now) (sym whole))
+startup_head_is who limit bytes heads.Unfinished h = record { no_fault = λ fault f. h.no_fault f.0 fault f.1 f.2; no_frame = no_startup who limit bytes h }
+startup_head_is who limit bytes (heads.Fault fault) h = h

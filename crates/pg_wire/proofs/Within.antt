@@ -146,7 +146,15 @@ back_bounded kind body =
     (chain (eqb kind 68) (mapped backs.Cells (counted_at cell_at body)) (within_mapped n backs.Cells (counted_at cell_at body) (counted_within cell_at cell_within body))
     (chain (eqb kind 67) (mapped backs.Complete (str_at body)) (within_mapped n backs.Complete (str_at body) (str_within body))
     (chain (eqb kind 69) (mapped backs.Error (listed_at error_at body)) (within_mapped n backs.Error (listed_at error_at body) (listed_within error_at error_within body))
-    (record { bound = omega arith }))))))))
+    (chain (eqb kind 73) (Ok (backs.EmptyQuery, body)) (omega arith)
+    (chain (eqb kind 78) (mapped backs.Notice (listed_at error_at body)) (within_mapped n backs.Notice (listed_at error_at body) (listed_within error_at error_within body))
+    (chain (eqb kind 49) (Ok (backs.ParseDone, body)) (omega arith)
+    (chain (eqb kind 50) (Ok (backs.BindDone, body)) (omega arith)
+    (chain (eqb kind 51) (Ok (backs.CloseDone, body)) (omega arith)
+    (chain (eqb kind 110) (Ok (backs.NoData, body)) (omega arith)
+    (chain (eqb kind 116) (mapped backs.Params (counted_at (number_at w32) body)) (within_mapped n backs.Params (counted_at (number_at w32) body) (counted_within (number_at w32) (number_within w32) body))
+    (chain (eqb kind 115) (Ok (backs.Suspended, body)) (omega arith)
+    (record { bound = omega arith }))))))))))))))))
 
 abbrev failed : {B : Type 0} → ℕ → Result B ℕ
 failed left = Err left

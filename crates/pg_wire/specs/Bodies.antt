@@ -153,6 +153,14 @@ back_at kind body =
     else if kind == 68 then mapped backs.Cells (counted_at cell_at body)
     else if kind == 67 then mapped backs.Complete (str_at body)
     else if kind == 69 then mapped backs.Error (listed_at error_at body)
+    else if kind == 73 then Ok (backs.EmptyQuery, body)
+    else if kind == 78 then mapped backs.Notice (listed_at error_at body)
+    else if kind == 49 then Ok (backs.ParseDone, body)
+    else if kind == 50 then Ok (backs.BindDone, body)
+    else if kind == 51 then Ok (backs.CloseDone, body)
+    else if kind == 110 then Ok (backs.NoData, body)
+    else if kind == 116 then mapped backs.Params (counted_at (number_at w32) body)
+    else if kind == 115 then Ok (backs.Suspended, body)
     else Err (length body)
 
 unfoldable pub back_read : ℕ → List ℕ → Result Back ℕ

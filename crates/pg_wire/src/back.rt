@@ -23,7 +23,7 @@ pub struct Field {
     pub format: u16,
 }
 
-/// A field of an error.
+/// A field of an error or of a notice.
 #[derive(Debug, Drop)]
 pub struct ErrorField {
     /// What the text is, as `M` for the message. It isn't 0.
@@ -32,7 +32,8 @@ pub struct ErrorField {
     pub text: Bytes,
 }
 
-/// A message of the server.
+/// A message of the server. Names and texts hold no zero byte, and a list that is written with a count
+/// has at most 65,535 items.
 #[derive(Debug, Drop)]
 pub enum Back {
     /// Authentication: a code, 0 for success, and what follows it.
@@ -41,7 +42,7 @@ pub enum Back {
     Status(Pair),
     /// BackendKeyData.
     KeyData { process: u32, key: u32 },
-    /// ReadyForQuery: `I`, `T` or `E`.
+    /// ReadyForQuery: `I` for idle, `T` in a transaction, `E` in a failed one.
     Ready(u8),
     /// RowDescription.
     Row(Sequence<Field>),
@@ -49,6 +50,22 @@ pub enum Back {
     Cells(Sequence<Option<Bytes>>),
     /// CommandComplete with its tag.
     Complete(Bytes),
+    /// EmptyQueryResponse, in place of CommandComplete.
+    EmptyQuery,
     /// ErrorResponse.
     Error(Sequence<ErrorField>),
+    /// NoticeResponse.
+    Notice(Sequence<ErrorField>),
+    /// ParseComplete.
+    ParseDone,
+    /// BindComplete.
+    BindDone,
+    /// CloseComplete.
+    CloseDone,
+    /// NoData: what was described returns no rows.
+    NoData,
+    /// ParameterDescription: the OIDs of the parameters' types.
+    Params(Sequence<u32>),
+    /// PortalSuspended: an Execute reached its row limit.
+    Suspended,
 }

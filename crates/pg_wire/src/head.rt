@@ -7,6 +7,9 @@ ghost use Rattle.pg_wire.specs.Heads.{IsCounted, IsHead};
 use crate::frame::{FrameFault, Side};
 use crate::front::{GSS_REQUEST, TLS_REQUEST};
 
+/// The most that a startup packet's length may tell.
+const STARTUP_LIMIT: u32 = 10_000;
+
 /// What stands at the front of a stream.
 pub enum Head<'a> {
     /// A frame, and what follows it.
@@ -87,13 +90,6 @@ fn counted_head(kind: u8, least: u32, most: u32, bytes: &[u8]) -> Head<'_>
     Head::Whole { kind, body, rest }
 }
 
-/// What stands at the front where a startup packet is awaited.
-fn startup_head(bytes: &[u8]) -> Head<'_>
-    ensures { (who : Side) (limit : ℕ) → IsHead who limit true bytes.now result }
-{
-    counted_head(0, 8, 10_000, bytes)
-}
-
 /// What stands at the front where a message is awaited.
 fn message_head(side: Side, limit: u32, bytes: &[u8]) -> Head<'_>
     ensures { IsHead side limit false bytes.now result }
@@ -114,7 +110,7 @@ pub fn head_of(side: Side, limit: u32, opening: bool, bytes: &[u8]) -> Head<'_>
     ensures { IsHead side limit opening bytes.now result }
 {
     if opening {
-        startup_head(bytes)
+        counted_head(0, 8, STARTUP_LIMIT, bytes)
     } else {
         message_head(side, limit, bytes)
     }

@@ -1,4 +1,4 @@
-ghost use Rattle.std.specs.Prelude.{◌≡◌, ◌<◌, ◌++◌, ℕ, Bool, List, slice_index};
+ghost use Rattle.std.specs.Prelude.{◌≡◌, ◌<◌, ◌++◌, ℕ, Bool, List, Ok, slice_index};
 ghost use Rattle.pg_wire.specs.declared.frame.Side.{Side};
 ghost use Rattle.pg_wire.specs.declared.frame.FrameFault.{FrameFault};
 ghost use Rattle.pg_wire.specs.declared.front.Front.{Front};
@@ -7,6 +7,8 @@ ghost use Rattle.pg_wire.specs.Frames.{frame_bytes, IsFrame, HasFault, IsUnfinis
 ghost use Rattle.pg_wire.specs.Fronts.{IsFront, front_kind, front_body};
 ghost use Rattle.pg_wire.specs.Backs.{IsBack, back_kind, back_body};
 ghost use Rattle.pg_wire.specs.Prefixes.{BeginsFrame};
+ghost use Rattle.pg_wire.specs.Bodies.{front_read, back_read};
+ghost use Rattle.pg_wire.specs.Reading.{SpellsFront, SpellsBack};
 
 /// No frame begins another: a stream begins with one frame at most.
 pub fn one_frame()
@@ -39,6 +41,18 @@ pub fn one_front()
 /// No two messages of a server have one spelling.
 pub fn one_back()
     ensures one { (a b : Back) → IsBack a → IsBack b → back_kind a ≡ back_kind b → back_body a ≡ back_body b → a ≡ b }
+{}
+
+/// The round trip of a client's messages: what spells one is read as it, and what is read as one spells it.
+pub fn front_round_trip()
+    ensures again { (m : Front) → IsFront m → front_read (front_kind m) (front_body m) ≡ Ok m }
+    ensures spelled { (kind : ℕ) (body : List ℕ) (m : Front) → ((i : ℕ) → slice_index body i < 256) → front_read kind body ≡ Ok m → SpellsFront kind body m }
+{}
+
+/// The round trip of a server's messages: what spells one is read as it, and what is read as one spells it.
+pub fn back_round_trip()
+    ensures again { (m : Back) → IsBack m → back_read (back_kind m) (back_body m) ≡ Ok m }
+    ensures spelled { (kind : ℕ) (body : List ℕ) (m : Back) → ((i : ℕ) → slice_index body i < 256) → back_read kind body ≡ Ok m → SpellsBack kind body m }
 {}
 
 /// What is unfinished is the front of a longer frame.

@@ -13,6 +13,7 @@ mod head;
 mod laws;
 mod lists;
 mod put;
+mod put_back;
 mod put_front;
 mod reading_back;
 mod reading_front;
@@ -25,7 +26,8 @@ pub use frame::{Frame, FrameFault, MessageFault, NextFault, ReadBody, Side};
 pub use framer::Framer;
 pub use front::{Front, Pair, Target};
 pub use laws::{
-    fault_is_no_frame, fault_stays, one_back, one_fault, one_frame, one_front, unfinished_begins,
+    back_round_trip, fault_is_no_frame, fault_stays, front_round_trip, one_back, one_fault,
+    one_frame, one_front, unfinished_begins,
 };
 pub use reading_back::read_back;
 pub use reading_front::read_front;

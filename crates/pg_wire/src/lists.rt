@@ -8,7 +8,7 @@ use crate::front::Pair;
 use acra_base::Sequence;
 use std::alloc::Global;
 
-/// Reads a field of an error.
+/// Reads a field of an error or of a notice.
 #[tactic(auto, unfolding(crate::specs::Bodies::error_at))]
 fn error_field_of(alloc: Global, bytes: &[u8]) -> Result<(ErrorField, &[u8]), Unread>
     ensures { Gives (λ x. (x.0, x.1.now)) result (error_at bytes.now) }
@@ -22,7 +22,7 @@ fn error_field_of(alloc: Global, bytes: &[u8]) -> Result<(ErrorField, &[u8]), Un
     }
 }
 
-/// Reads the fields of an error and the zero byte that ends them.
+/// Reads the fields of an error or of a notice, and the zero byte that ends them.
 pub fn error_fields_of(alloc: Global, bytes: &[u8]) -> Result<(Sequence<ErrorField>, &[u8]), Unread>
     ensures { Gives (λ x. (x.0, x.1.now)) result (listed_at error_at bytes.now) }
 {

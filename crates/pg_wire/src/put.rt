@@ -1,7 +1,7 @@
 ghost use Rattle.std.specs.Prelude.{◌≡◌, ◌++◌, ◌∷◌, [], ◌<◌, ◌^◌, length, OnOk, List, Option};
 ghost use Rattle.std.specs.Int.{w16, w32, to_be_bytes, cast_unsigned};
 ghost use Rattle.std.specs.List.{flat_map, AllByRecursion};
-ghost use Rattle.pg_wire.specs.Parts.{str, pair_bytes, IsCell, cell_bytes, counted_items, AreCounted};
+ghost use Rattle.pg_wire.specs.Parts.{str, pair_bytes, IsCell, cell_bytes, counted_items, listed_items, AreCounted};
 ghost use Rattle.pg_wire.specs.Backs.{field_bytes, error_bytes};
 
 use crate::back::{ErrorField, Field, NULL_LENGTH};
@@ -148,7 +148,7 @@ pub fn put_cells(cells: &[Option<Bytes>], out: &mut Vec<u8>) -> Result<(), NoMem
     Ok(())
 }
 
-/// Puts a field of an error at the end.
+/// Puts a field of an error or of a notice at the end.
 fn put_error_field(field: &ErrorField, out: &mut Vec<u8>) -> Result<(), NoMemory>
     ensures { OnOk result (out.new.items ≡ out.old.items ++ error_bytes field.now) }
 {
@@ -157,12 +157,13 @@ fn put_error_field(field: &ErrorField, out: &mut Vec<u8>) -> Result<(), NoMemory
     Ok(())
 }
 
-/// Puts the fields of an error at the end.
+/// Puts the fields of an error or of a notice, and the zero byte that ends them, at the end.
 pub fn put_error_fields(fields: &[ErrorField], out: &mut Vec<u8>) -> Result<(), NoMemory>
-    ensures { OnOk result (out.new.items ≡ out.old.items ++ flat_map error_bytes fields.now) }
+    ensures { OnOk result (out.new.items ≡ out.old.items ++ listed_items error_bytes fields.now) }
 {
     'fields: for field in fields {
         put_error_field(field, out)?;
     }
+    out.push(0)?;
     Ok(())
 }

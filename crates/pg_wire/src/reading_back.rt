@@ -6,7 +6,7 @@ ghost use Rattle.pg_wire.specs.declared.back.Back.{Back};
 
 use crate::back::Back;
 use crate::columns::row_of;
-use crate::counted::counted_cells_of;
+use crate::counted::{counted_cells_of, counted_oids_of};
 use crate::fields::{Unread, pair_of, str_of, u32_of};
 use crate::frame::{Frame, ReadBody};
 use crate::lists::error_fields_of;
@@ -81,6 +81,20 @@ fn back_of(alloc: Global, kind: u8, body: &[u8]) -> Result<(Back, &[u8]), Unread
             let (fields, rest) = error_fields_of(alloc, body)?;
             Ok((Back::Error(fields), rest))
         }
+        b'I' => Ok((Back::EmptyQuery, body)),
+        b'N' => {
+            let (fields, rest) = error_fields_of(alloc, body)?;
+            Ok((Back::Notice(fields), rest))
+        }
+        b'1' => Ok((Back::ParseDone, body)),
+        b'2' => Ok((Back::BindDone, body)),
+        b'3' => Ok((Back::CloseDone, body)),
+        b'n' => Ok((Back::NoData, body)),
+        b't' => {
+            let (types, rest) = counted_oids_of(alloc, body)?;
+            Ok((Back::Params(types), rest))
+        }
+        b's' => Ok((Back::Suspended, body)),
         _ => Err(Unread::At { left: body.len() }),
     }
 }

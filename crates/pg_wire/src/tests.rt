@@ -1,8 +1,42 @@
 use super::*;
-use acra_base::Bytes;
+use acra_base::{Bytes, Random, SureRandom};
 use std::alloc::Global;
 use std::process::Abort;
 use std::test::*;
+
+/// A frame of this type and body.
+fn frame_with(alloc: Global, kind: u8, body: &[u8]) -> Result<Frame, Fail> {
+    let body = Bytes::copied(alloc, body).ok().ok_or("no memory")?;
+    Ok(Frame {
+        offset: 0,
+        kind,
+        body,
+    })
+}
+
+/// Reads the server's message of this frame, and writes its body again.
+fn server_again(rt: &impl Abort, alloc: Global, frame: &Frame) -> Result<(), Fail> {
+    assert!(rt; frame.body.len() < 2_000_000);
+    let Ok(message) = read_back(alloc, &frame) else {
+        return Err("no message".into());
+    };
+    let mut out = Vec::new(alloc);
+    write_back(&message, &mut out).ok().ok_or("no memory")?;
+    assert!(rt; out.ends_with(frame.body.as_slice()), "type {}", frame.kind);
+    Ok(())
+}
+
+/// Reads the client's message of this frame, and writes its body again.
+fn client_again(rt: &impl Abort, alloc: Global, frame: &Frame) -> Result<(), Fail> {
+    assert!(rt; frame.body.len() < 2_000_000);
+    let Ok(message) = read_front(alloc, frame) else {
+        return Err("no message".into());
+    };
+    let mut out = Vec::new(alloc);
+    write_front(&message, &mut out).ok().ok_or("no memory")?;
+    assert!(rt; out.ends_with(frame.body.as_slice()), "type {}", frame.kind);
+    Ok(())
+}
 
 /// The one frame of these bytes.
 fn frame_of(alloc: Global, side: Side, bytes: &[u8]) -> Result<Frame, Fail> {
@@ -32,7 +66,8 @@ const CELLS: &[u8] = b"D\0\0\0\x13\0\x03\xff\xff\xff\xff\0\0\0\x017\0\0\0\0";
 
 #[test]
 fn server_messages(rt: HostRuntime) -> Result<(), Fail> {
-    let messages: [&[u8]; 8] = [
+    // A notice of one field, types 20 and 25, and the messages without a body.
+    let messages: [&[u8]; 16] = [
         b"R\0\0\0\x0c\0\0\0\x05salt",
         b"S\0\0\0\x09ab\0c\0",
         b"K\0\0\0\x0c\0\0\0\x01\0\0\x01\x02",
@@ -41,21 +76,19 @@ fn server_messages(rt: HostRuntime) -> Result<(), Fail> {
         CELLS,
         b"C\0\0\0\x0dSELECT 1\0",
         b"E\0\0\0\x10C42601\0Mno\0\0",
+        b"N\0\0\0\x09Mhi\0\0",
+        b"t\0\0\0\x0e\0\x02\0\0\0\x14\0\0\0\x19",
+        b"I\0\0\0\x04",
+        b"1\0\0\0\x04",
+        b"2\0\0\0\x04",
+        b"3\0\0\0\x04",
+        b"n\0\0\0\x04",
+        b"s\0\0\0\x04",
     ];
     for bytes in messages {
         back_again(&rt, rt.alloc(), bytes)?;
     }
     Ok(())
-}
-
-/// A client's frame of this type and body.
-fn client_frame(alloc: Global, kind: u8, body: &[u8]) -> Result<Frame, Fail> {
-    let body = Bytes::copied(alloc, body).ok().ok_or("no memory")?;
-    Ok(Frame {
-        offset: 0,
-        kind,
-        body,
-    })
 }
 
 #[test]
@@ -84,21 +117,15 @@ fn client_messages(rt: HostRuntime) -> Result<(), Fail> {
         (b'X', b""),
     ];
     for (kind, body) in messages {
-        let frame = client_frame(rt.alloc(), kind, body)?;
-        assert!(rt; frame.body.len() < 1000);
-        let Ok(message) = read_front(rt.alloc(), &frame) else {
-            return Err("no message".into());
-        };
-        let mut out = Vec::new(rt.alloc());
-        write_front(&message, &mut out).ok().ok_or("no memory")?;
-        assert!(rt; out.ends_with(body), "type {kind}");
+        let frame = frame_with(rt.alloc(), kind, body)?;
+        client_again(&rt, rt.alloc(), &frame)?;
     }
     Ok(())
 }
 
 #[test]
 fn bound_values(rt: HostRuntime) -> Result<(), Fail> {
-    let frame = client_frame(
+    let frame = frame_with(
         rt.alloc(),
         b'B',
         b"p\0s\0\0\x01\0\x01\0\x02\0\0\0\x027x\xff\xff\xff\xff\0\0",
@@ -159,7 +186,7 @@ fn client_places(rt: HostRuntime) -> Result<(), Fail> {
         (b'S', b"\0", 0),
     ];
     for (kind, body, place) in cases {
-        let frame = client_frame(rt.alloc(), kind, body)?;
+        let frame = frame_with(rt.alloc(), kind, body)?;
         assert!(rt;
             matches!(read_front(rt.alloc(), &frame), Err(ReadBody::BodyFault { offset }) if offset == place),
             "type {kind}, place {place}"
@@ -256,16 +283,24 @@ fn faults(rt: HostRuntime) -> Result<(), Fail> {
 
 #[test]
 fn places(rt: HostRuntime) -> Result<(), Fail> {
-    // A format of 2, a value cut short, a missing terminator, a byte too many and an unknown type.
-    let cases: [(&[u8], usize); 5] = [
+    // A format of 2, a value cut short, a length of -2, a missing terminator, a byte too many, a state
+    // that is none, half a code, a count of 2 with one type, and a body where none is.
+    let cases: [(&[u8], usize); 12] = [
         (
             b"T\0\0\0\x1b\0\x01id\0\0\0\x01\0\0\x02\0\0\0\x19\xff\xff\xff\xff\xff\xff\0\x02",
             21,
         ),
         (b"D\0\0\0\x0c\0\x01\0\0\0\x05ab", 6),
+        (b"D\0\0\0\x0a\0\x01\xff\xff\xff\xfe", 2),
         (b"E\0\0\0\x07Ma\0", 3),
         (b"Z\0\0\0\x06II", 1),
-        (b"N\0\0\0\x05\0", 0),
+        (b"N\0\0\0\x07Ma\0", 3),
+        (b"N\0\0\0\x06\0\0", 1),
+        (b"Z\0\0\0\x05J", 0),
+        (b"R\0\0\0\x07\0\0\0", 0),
+        (b"t\0\0\0\x0a\0\x02\0\0\0\x14", 6),
+        (b"1\0\0\0\x05\0", 0),
+        (b"s\0\0\0\x06\0\0", 0),
     ];
     for (bytes, place) in cases {
         let frame = frame_of(rt.alloc(), Side::Backend, bytes)?;
@@ -273,5 +308,108 @@ fn places(rt: HostRuntime) -> Result<(), Fail> {
             matches!(read_back(rt.alloc(), &frame), Err(ReadBody::BodyFault { offset }) if offset == place)
         );
     }
+    Ok(())
+}
+
+/// A frame whose body has a list of this many equal items between a front and a back.
+fn list_frame(
+    alloc: Global,
+    kind: u8,
+    count: u16,
+    parts: (&[u8], &[u8], &[u8]),
+) -> Result<Frame, Fail> {
+    let (front, item, back) = parts;
+    let mut body = Vec::new(alloc);
+    body.extend_from_slice(front)?;
+    body.extend_from_slice(&count.to_be_bytes())?;
+    for _ in 0..count {
+        body.extend_from_slice(item)?;
+    }
+    body.extend_from_slice(back)?;
+    frame_with(alloc, kind, &body)
+}
+
+#[test]
+fn shortest_and_longest_lists(rt: HostRuntime) -> Result<(), Fail> {
+    let field: &[u8] = b"\0\0\0\0\x01\0\x02\0\0\0\x19\xff\xff\xff\xff\xff\xff\0\x01";
+    let server: [(u8, &[u8]); 3] = [
+        (b'T', field),
+        (b'D', b"\xff\xff\xff\xff"),
+        (b't', b"\0\0\0\x14"),
+    ];
+    let client: [(u8, (&[u8], &[u8], &[u8])); 4] = [
+        (b'P', (b"\0\0", b"\0\0\0\x14", b"")),
+        (b'B', (b"\0\0", b"\0\x01", b"\0\0\0\0")),
+        (b'B', (b"\0\0\0\0", b"\xff\xff\xff\xff", b"\0\0")),
+        (b'B', (b"\0\0\0\0\0\0", b"\0\x01", b"")),
+    ];
+    for count in [0, 65_535] {
+        for (kind, item) in server {
+            let frame = list_frame(rt.alloc(), kind, count, (b"", item, b""))?;
+            server_again(&rt, rt.alloc(), &frame)?;
+        }
+        for (kind, parts) in client {
+            let frame = list_frame(rt.alloc(), kind, count, parts)?;
+            client_again(&rt, rt.alloc(), &frame)?;
+        }
+    }
+    Ok(())
+}
+
+/// A startup packet and 1,000 queries of up to 255 bytes.
+fn long_stream(alloc: Global, random: &mut SureRandom) -> Result<Vec<u8>, Fail> {
+    let mut stream = Vec::new(alloc);
+    stream.extend_from_slice(b"\0\0\0\x09\0\x03\0\0\0")?;
+    for _ in 0..1000 {
+        let mut size = [0u8];
+        random.draw(&mut size).ok().ok_or("no bytes")?;
+        stream.extend_from_slice(&[b'Q', 0, 0])?;
+        stream.extend_from_slice(&(u16::from(size[0]) + 5).to_be_bytes())?;
+        for _ in 0..size[0] {
+            stream.push(size[0] | 1)?;
+        }
+        stream.push(0)?;
+    }
+    Ok(stream)
+}
+
+/// Takes the frames of one framer, each of which is the next of the other, and counts them.
+fn same_frames(rt: &impl Abort, one: &mut Framer, other: &mut Framer) -> Result<usize, Fail> {
+    let mut count: usize = 0;
+    for _ in 0..2000 {
+        let Some(frame) = one.next().ok().ok_or("no frame")? else {
+            return Ok(count);
+        };
+        let same = other.next().ok().ok_or("no frame")?.ok_or("half a frame")?;
+        assert_eq!(rt; (frame.offset, frame.kind), (same.offset, same.kind));
+        assert!(rt; frame.body == same.body);
+        count = count.wrapping_add(1);
+    }
+    Ok(count)
+}
+
+#[test]
+fn random_pieces(rt: HostRuntime) -> Result<(), Fail> {
+    let mut random = SureRandom::new(7);
+    let stream = long_stream(rt.alloc(), &mut random)?;
+    let mut whole = Framer::new(rt.alloc(), Side::Client, 1000);
+    let mut pieces = Framer::new(rt.alloc(), Side::Client, 1000);
+    whole.feed(&stream).ok().ok_or("no memory")?;
+    let mut rest = stream.as_slice();
+    let mut count: usize = 0;
+    for _ in 0..1_000_000 {
+        let mut size = [0u8];
+        random.draw(&mut size).ok().ok_or("no bytes")?;
+        let size = rest.len().min(usize::from(size[0]));
+        let (piece, after) = rest.split_at(size);
+        pieces.feed(piece).ok().ok_or("no memory")?;
+        count = count.wrapping_add(same_frames(&rt, &mut pieces, &mut whole)?);
+        rest = after;
+        if rest.is_empty() {
+            break;
+        }
+    }
+    assert_eq!(rt; count, 1001);
+    assert!(rt; whole.is_empty() && pieces.is_empty());
     Ok(())
 }

@@ -5,7 +5,8 @@ ghost use Rattle.pg_wire.specs.Backs.{IsBack, back_kind, back_body, back_frame};
 
 use crate::back::Back;
 use crate::front::Front;
-use crate::put::{put_cells, put_error_fields, put_fields, put_pair, put_str, put_u32};
+use crate::put::put_u32;
+use crate::put_back::put_back;
 use crate::put_front::put_front;
 use acra_base::NoMemory;
 use std::alloc::Global;
@@ -22,7 +23,15 @@ fn kind_of_back(message: &Back) -> u8
         Back::Row(_) => b'T',
         Back::Cells(_) => b'D',
         Back::Complete(_) => b'C',
+        Back::EmptyQuery => b'I',
         Back::Error(_) => b'E',
+        Back::Notice(_) => b'N',
+        Back::ParseDone => b'1',
+        Back::BindDone => b'2',
+        Back::CloseDone => b'3',
+        Back::NoData => b'n',
+        Back::Params(_) => b't',
+        Back::Suspended => b's',
     }
 }
 
@@ -32,43 +41,8 @@ fn body_of_back(alloc: Global, message: &Back) -> Result<Vec<u8>, NoMemory>
     ensures { IfOk result (λ body. body.items ≡ back_body message.now) }
 {
     let mut body = Vec::new(alloc);
-    match message {
-        Back::Auth { code, rest } => {
-            put_u32(*code, &mut body)?;
-            body.extend_from_slice(rest.as_slice())?;
-            Ok(body)
-        }
-        Back::Status(pair) => {
-            put_pair(pair, &mut body)?;
-            Ok(body)
-        }
-        Back::KeyData { process, key } => {
-            put_u32(*process, &mut body)?;
-            put_u32(*key, &mut body)?;
-            Ok(body)
-        }
-        Back::Ready(state) => {
-            body.push(*state)?;
-            Ok(body)
-        }
-        Back::Row(fields) => {
-            put_fields(fields.as_slice(), &mut body)?;
-            Ok(body)
-        }
-        Back::Cells(cells) => {
-            put_cells(cells.as_slice(), &mut body)?;
-            Ok(body)
-        }
-        Back::Complete(tag) => {
-            put_str(tag, &mut body)?;
-            Ok(body)
-        }
-        Back::Error(fields) => {
-            put_error_fields(fields.as_slice(), &mut body)?;
-            body.push(0)?;
-            Ok(body)
-        }
-    }
+    put_back(message, &mut body)?;
+    Ok(body)
 }
 
 /// The type byte of a client's message, 0 for a startup packet.

@@ -1,9 +1,12 @@
-use Rattle.lab_session.proofs.Relayed.{gave, gave_fault, unread, first_frame, first_read}
+use Rattle.lab_session.proofs.Relayed.{gave, gave_none, gave_fault, unread, first_frame, first_read}
 use Rattle.lab_session.proofs.relay.next_message.Goals as goal
 
 pub returns-in-Ok : goal.returns-in-Ok
 returns-in-Ok c messages h =
     first_read c.in-Ok.message _ _ messages _ (first_frame _ _ _ messages (gave _ _ c.in-Ok-Some.field-0 _ c.in-Ok-Some.field-0-is c.in-Ok-Some.ensures) h) c.in-Ok.ensures.only
+
+pub returns-in-Ok-None : goal.returns-in-Ok-None
+returns-in-Ok-None c messages h = gave_none _ _ c.in-Ok-None.field-0 messages c.in-Ok-None.field-0-is c.in-Ok-None.ensures h
 
 pub unreachable-requires : goal.unreachable-requires
 unreachable-requires c =

@@ -9,14 +9,15 @@ use std::collections::LinkedList;
 use std::marker::{Brand, PhantomData};
 use std::snapshot::Snapshot;
 
-/// What a seat knows, by the calls and the replies of its machine. No value of it is made.
+/// What a seat knows, by the calls and the replies of its machine. It is for proofs alone, and no value of it is made.
 pub struct View<C, R> {
+    /// The ticket, from the draw to the end of the turn.
     pub ticket: Option<u64>,
     /// The turn is this seat's.
     pub marked: bool,
     /// The history, as far as the seat knows it.
     pub known: LinkedList<(C, R)>,
-    /// What a seat knew that this one has just taken in.
+    /// Empty, or from a join to the look after it the shorter of the two histories.
     pub heard: LinkedList<(C, R)>,
     /// The places of the seat's own calls in the history.
     pub places: LinkedList<u64>,
@@ -78,10 +79,12 @@ impl<M: Machine, E: Said<M::Call, M::Reply>> Play<Option<M>, View<M::Call, M::Re
     ghost then = { Passes E.said };
 }
 
-pub(crate) struct Settle;
+pub(crate) struct Settle<J> {
+    awaited: PhantomData<J>,
+}
 
-impl<M: Machine> Play<Option<M>, View<M::Call, M::Reply>> for Settle {
-    ghost then = { Settles };
+impl<M: Machine, J: Awaited<M>> Play<Option<M>, View<M::Call, M::Reply>> for Settle<J> {
+    ghost then = { Settles M.steps J.opening };
 }
 
 pub(crate) struct Cut;

@@ -1,6 +1,6 @@
 use Rattle.std.proofs.Common.{rules, ◌≡◌, subst}
 use mathlib.Core.List.{IsPrefix}
-use Rattle.turnstile.proofs.Callers.{known_more, prefix_trans}
+use Rattle.turnstile.specs.Callers.{known_more, prefix_trans}
 use Rattle.turnstile_tally.proofs.visitor.visit.Goals as goal
 
 pub returns-clause-known : goal.returns-clause-known

@@ -2,6 +2,7 @@ ghost use Rattle.std.specs.Prelude.{◌≡◌, false, List};
 ghost use mathlib.Core.List.{IsPrefix};
 ghost use Rattle.acra_base.specs.Histories.{IsLegal};
 ghost use Rattle.turnstile.specs.Seats.{Ends};
+ghost use Rattle.turnstile_tally.specs.Visits.{StandInOrder, StandBoth};
 
 use acra_base::Machine;
 use std::sync::Wait;
@@ -43,7 +44,7 @@ impl<'s, R: Wait, M: Machine> Visitor<'s, R, M> {
     }
 }
 
-/// Two calls of one seat, through a visitor.
+/// Two calls of one seat, through a visitor. Both stand in the history, in this order.
 pub fn visit<R: Wait, M: Machine>(
     rt: &R,
     stile: &Turnstile<M>,
@@ -57,6 +58,7 @@ where
     requires between { seat.old.in_turn ≡ false }
     ensures between { seat.new.in_turn ≡ false }
     ensures known { IsPrefix seat.old.known seat.new.known }
+    ensures stand { StandInOrder seat.old first result.0 second result.1 seat.new }
 {
     let mut visitor = Visitor::new(rt, stile, seat);
     let one = visitor.call(first);
@@ -64,7 +66,7 @@ where
     (one, two)
 }
 
-/// Two threads around any machine, each with a call.
+/// Two threads around any machine, each with one call. Both calls stand in one legal history.
 pub fn both<R: Threads + Wait + Sync, M: Machine + Send>(
     rt: &R,
     stile: &Turnstile<M>,
@@ -81,6 +83,8 @@ where
     ensures between { result.0.in_turn ≡ false }
     ensures mine { result.0.stile ≡ stile.now.id }
     ensures known { IsPrefix seat.known result.0.known × IsPrefix other.known result.0.known }
+    ensures legal { IsLegal M.steps stile.now.opening result.0.known }
+    ensures stand { StandBoth seat first result.1 other second result.2 result.0 }
 {
     let (one, two) = join(
         rt,

@@ -2,7 +2,8 @@ use super::*;
 use std::test::*;
 use turnstile::{Entrance, Turnstile};
 
-// Each thread goes on only when the history shows a call of the other.
+/// Each thread goes on only when the history shows a call of the other, within a million turns. Two
+/// that ran one after the other would not meet.
 #[test]
 fn two_threads_meet(rt: HostRuntime) -> Result<(), Fail> {
     let meeting = meet_both(&rt, rt.alloc(), 1_000_000).map_err(|_| "memory")?;
@@ -11,14 +12,7 @@ fn two_threads_meet(rt: HostRuntime) -> Result<(), Fail> {
     Ok(())
 }
 
-#[test]
-fn nobody_calls(rt: HostRuntime) -> Result<(), Fail> {
-    let meeting = meet_both(&rt, rt.alloc(), 0).map_err(|_| "memory")?;
-    assert!(rt; !meeting.left_met && !meeting.right_met);
-    assert!(rt; meeting.tally.left == 0 && meeting.tally.right == 0);
-    Ok(())
-}
-
+/// Each of the four makes 500 calls.
 #[test]
 fn four_threads_count(rt: HostRuntime) -> Result<(), Fail> {
     let Entrance { stile, seat } = Turnstile::new(rt.alloc(), Tally::new()).map_err(|_| "memory")?;

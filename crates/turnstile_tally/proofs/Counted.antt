@@ -67,3 +67,20 @@ stays first seen last known history side fits p begins q =
     let same : between.0 ≡ seen = leads_one Counts (λ (t : Tally). t) one_state first first between.0 seen known refl between.1 p in
     let start : IsAtLeast side (count seen side) between.0 = subst (IsAtLeast side (count seen side)) (sym same) (le_refl (count seen side), fits) in
     (leads_keeps Counts (IsAtLeast side (count seen side)) (λ before after call reply k s. subst (IsAtLeast side (count seen side)) (sym s.0) (raised_keeps side (count seen side) before call k)) between.0 last begins.0 start between.2).0
+
+is_own : (side : Side) → is side side ≡ 1
+is_own Left = refl
+is_own Right = refl
+
+-- a history that ends with a call of the side has one
+pub calls_own : (side : Side) (es : List (Side × Tally)) (reply : Tally) → 0 < calls side (es ++ (side, reply) ∷ [])
+calls_own side es reply = let more = calls_more side es ((side, reply) ∷ []) in let own = is_own side in omega (arith, more, own)
+
+raised_some : (t : Tally) (call : Side) → 0 < count (raised t call) call
+raised_some t Left = omega arith
+raised_some t Right = omega arith
+
+-- after a call its side has a count
+pub counts_own : (first last : Tally) (es : List (Side × Tally)) (call : Side) (reply : Tally) → Leads Counts first (es ++ (call, reply) ∷ []) last → 0 < count last call
+counts_own first last [] call reply h = subst (λ (t : Tally). 0 < count t call) (sym (h.2 ∙ h.1.0)) (raised_some first call)
+counts_own first last (e ∷ es) call reply h = counts_own h.0 last es call reply h.2

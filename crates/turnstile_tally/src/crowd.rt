@@ -4,7 +4,7 @@ ghost use denote.Param.Send.{IsSync};
 ghost use Rattle.turnstile.specs.Places.{IsEachOnce};
 ghost use Rattle.turnstile.specs.Seats.{Ends};
 ghost use Rattle.acra_base.specs.Histories.{Leads};
-ghost use Rattle.turnstile_tally.specs.Counting.{Counts};
+ghost use Rattle.turnstile_tally.specs.Counting.{Counts, count};
 
 use crate::machine::{Side, Tally};
 use acra_base::{Machine, NoMemory};
@@ -88,6 +88,7 @@ pub fn call_and_close<R: Wait>(
 ) -> (Tally, Tally)
     requires mine { seat.stile ≡ stile.now.id }
     requires between { seat.in_turn ≡ false }
+    ensures called { 0 < count result.0 side }
     ensures left { result.0.left ≤ result.1.left }
     ensures right { result.0.right ≤ result.1.right }
 {

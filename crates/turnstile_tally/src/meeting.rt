@@ -13,7 +13,7 @@ use std::sync::Wait;
 use std::thread::{Threads, join, yield_now};
 use turnstile::{Entrance, Seat, Turnstile};
 
-/// Calls until the history shows a call of the other side, at most `turns` times, and says whether it does.
+/// Calls until the history shows a call of the other side, at most `turns` times, and says whether it does. It gives up after all of its turns, and no sooner.
 pub fn meet<R: Wait>(
     rt: &R,
     stile: &Turnstile<Tally>,
@@ -27,7 +27,9 @@ pub fn meet<R: Wait>(
     ensures seat { (seat.new.stile ≡ stile.now.id) × (seat.new.in_turn ≡ false) }
     ensures known { IsPrefix seat.old.known seat.new.known }
     ensures met { result ≡ true → 0 < calls (other side) seat.new.known }
-    ensures places { (length seat.new.places ≤ length seat.old.places + turns) × (result ≡ true → length seat.old.places < length seat.new.places) }
+    ensures called { 0 < turns → 0 < calls side seat.new.known }
+    ensures most { length seat.new.places ≤ length seat.old.places + turns }
+    ensures all { result ≡ false → length seat.new.places ≡ length seat.old.places + turns }
 {
     for _ in 0..turns {
         let seen = stile.act(rt, seat, side);
@@ -53,7 +55,8 @@ fn meet_as<R: Wait>(
     ensures seat { (result.1.stile ≡ stile.now.id) × (result.1.in_turn ≡ false) }
     ensures known { IsPrefix seat.known result.1.known }
     ensures met { result.0 ≡ true → 0 < calls (other side) result.1.known }
-    ensures places { (length result.1.places ≤ length seat.places + turns) × (result.0 ≡ true → length seat.places < length result.1.places) }
+    ensures called { 0 < turns → 0 < calls side result.1.known }
+    ensures all { result.0 ≡ false → length result.1.places ≡ length seat.places + turns }
 {
     let met = meet(rt, stile, &mut seat, side, turns);
     (met, seat)
@@ -73,7 +76,7 @@ pub fn meet_both<R: Threads + Wait + Sync>(
     alloc: Global,
     turns: u32,
 ) -> Result<Meeting, NoMemory>
-    ensures { IfOk result (λ m. (history : List (Side × Tally)) × Leads Counts (record { left = 0; right = 0 }) history m.tally × (m.left_met ≡ true → 0 < calls Right history) × (m.right_met ≡ true → 0 < calls Left history)) }
+    ensures { IfOk result (λ m. (history : List (Side × Tally)) × Leads Counts (record { left = 0; right = 0 }) history m.tally × (m.left_met ≡ true → 0 < calls Right history) × (m.right_met ≡ true → 0 < calls Left history) × (0 < turns → (0 < calls Left history) × (0 < calls Right history))) }
 {
     let Entrance { stile, mut seat } = Turnstile::new(alloc, Tally::new())?;
     let other = stile.split(&mut seat)?;
@@ -81,11 +84,11 @@ pub fn meet_both<R: Threads + Wait + Sync>(
         rt,
         || -> (bool, Seat<Tally>)
             requires { (seat.stile ≡ stile.id) × (seat.in_turn ≡ false) × (stile.opening ≡ record { left = 0; right = 0 }) }
-            ensures { (result.1.stile ≡ stile.id) × (result.1.in_turn ≡ false) × (result.0 ≡ true → 0 < calls Right result.1.known) }
+            ensures { (result.1.stile ≡ stile.id) × (result.1.in_turn ≡ false) × (result.0 ≡ true → 0 < calls Right result.1.known) × (0 < turns → 0 < calls Left result.1.known) }
         { meet_as(rt, &stile, seat, Side::Left, turns) },
         || -> (bool, Seat<Tally>)
             requires { (other.stile ≡ stile.id) × (other.in_turn ≡ false) × (stile.opening ≡ record { left = 0; right = 0 }) }
-            ensures { (result.1.stile ≡ stile.id) × (result.1.in_turn ≡ false) × (result.0 ≡ true → 0 < calls Left result.1.known) }
+            ensures { (result.1.stile ≡ stile.id) × (result.1.in_turn ≡ false) × (result.0 ≡ true → 0 < calls Left result.1.known) × (0 < turns → 0 < calls Right result.1.known) }
         { meet_as(rt, &stile, other, Side::Right, turns) },
     );
     let (left_met, mut seat) = left;

@@ -15,4 +15,5 @@ returns g c =
       subst (λ (t : Tally). Leads Counts t end.0 c.close-tally.result) opening end.2,
       (λ met. still_calls Right _ _ _ joined.this end.1 (c.join-left.ensures.first.2 met)),
       (λ met. still_calls Left _ _ _ joined.that end.1 (c.join-left.ensures.second.2 met)),
+      (λ some. (still_calls Left _ _ _ joined.this end.1 (c.join-left.ensures.first.3 some), still_calls Right _ _ _ joined.that end.1 (c.join-left.ensures.second.3 some))),
     )

@@ -1,6 +1,5 @@
 -- Calls stand at the places that their seats have.
-use Rattle.std.proofs.Common.{◌≡◌, ℕ, ◌+◌, ◌<◌, ◌≤◌, List, [], ◌∷◌, ◌++◌, length, Some, slice_get, refl, ap, sym, subst, ◌∙◌, inl, inr, ⊎_elim, arith, length-append, append_assoc}
-use mathlib.Core.List.{IsPrefix}
+use Rattle.std.proofs.Common.{◌≡◌, ℕ, List, [], ◌∷◌, ◌++◌, length, refl, ap, sym, subst, ◌∙◌, inl, inr, ⊎_elim, arith, length-append}
 use Rattle.turnstile.specs.Places.{Has, IsEachOnce}
 use Rattle.turnstile.specs.Seats.{Sitting, Ends, Joins}
 use Rattle.turnstile.specs.Callers.{prefix_get, known_more, call_stands}

@@ -1,5 +1,5 @@
 -- Calls of seats at the places of the one history.
-use Rattle.std.specs.Prelude.{◌≡◌, ℕ, ◌<◌, ◌++◌, List, [], ◌∷◌, Some, slice_get}
+use Rattle.std.specs.Prelude.{◌≡◌, ℕ, ◌<◌, ◌++◌, [], ◌∷◌, Some, slice_get}
 use Rattle.turnstile.specs.Seats.{Sitting}
 
 module _ {C R : Type 0} where

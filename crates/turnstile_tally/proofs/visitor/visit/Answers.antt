@@ -1,7 +1,6 @@
 use Rattle.std.proofs.Common.{rules, ◌≡◌, subst}
 use mathlib.Core.List.{IsPrefix}
 use Rattle.turnstile.specs.Callers.{known_more, prefix_trans}
-use Rattle.turnstile.specs.Seats.{Ends}
 use Rattle.turnstile_tally.specs.Visits.{StandInOrder}
 use Rattle.turnstile_tally.proofs.Standing.{stand_in_order}
 use Rattle.turnstile_tally.proofs.visitor.visit.Goals as goal

@@ -1,4 +1,4 @@
-ghost use Rattle.std.specs.Prelude.{◌≡◌, ℕ, ◌+◌, ◌-◌, ◌*◌, ◌<◌, ◌≤◌, true, false, List, [], IfOk, length};
+ghost use Rattle.std.specs.Prelude.{◌≡◌, ◌+◌, ◌-◌, ◌*◌, ◌<◌, ◌≤◌, false, IfOk, length};
 ghost use mathlib.Core.List.{IsPrefix};
 ghost use denote.Param.Send.{IsSync};
 ghost use Rattle.turnstile.specs.Places.{IsEachOnce};

@@ -1,4 +1,4 @@
-ghost use Rattle.std.specs.Prelude.{◌≡◌, ℕ, ◌+◌, ◌<◌, ◌≤◌, true, false, List, [], IfOk, length};
+ghost use Rattle.std.specs.Prelude.{◌≡◌, ◌+◌, ◌<◌, ◌≤◌, true, false, List, IfOk, length};
 ghost use mathlib.Core.List.{IsPrefix};
 ghost use Rattle.acra_base.specs.Histories.{Leads};
 ghost use Rattle.turnstile_tally.specs.Counting.{Counts, calls, other};

@@ -1,4 +1,4 @@
-ghost use Rattle.std.specs.Prelude.{◌≡◌, false, List};
+ghost use Rattle.std.specs.Prelude.{◌≡◌, false};
 ghost use mathlib.Core.List.{IsPrefix};
 ghost use Rattle.acra_base.specs.Histories.{IsLegal};
 ghost use Rattle.turnstile.specs.Seats.{Ends};

@@ -9,7 +9,8 @@ use std::collections::LinkedList;
 use std::marker::{Brand, PhantomData};
 use std::snapshot::Snapshot;
 
-/// What a seat knows, by the calls and the replies of its machine. It is for proofs alone, and no value of it is made.
+/// What a seat knows, by the calls and the replies of its machine. It is for proofs alone, and no
+/// value of it is made.
 pub struct View<C, R> {
     /// The ticket, from the draw to the end of the turn.
     pub ticket: Option<u64>,
@@ -35,7 +36,8 @@ impl<M: Machine> TableRule<Option<M>, View<M::Call, M::Reply>, Snapshot<M>> for 
     ghost first = { λ _. spent };
 }
 
-/// What the proof of a call picks for a look: the state in which the machine began, and the seat's ticket.
+/// What the proof of a call picks for a look: the state in which the machine began, and the seat's
+/// ticket.
 pub trait Awaited<M> {
     ghost opening: { Option M };
 

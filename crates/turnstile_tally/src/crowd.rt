@@ -44,7 +44,8 @@ fn calls<R: Wait>(
     seat
 }
 
-/// So many threads, each of which makes so many calls. Each call has a place of its own in the one history.
+/// So many threads, each of which makes so many calls. Each call has a place of its own in the one
+/// history.
 pub fn count_all<R: Threads + Wait + Sync>(
     rt: &R,
     stile: &Turnstile<Tally>,
@@ -79,7 +80,8 @@ pub fn count_all<R: Threads + Wait + Sync>(
     Ok(seat)
 }
 
-/// One call, and the end. What was seen in the turn still holds at the end, whoever called in between.
+/// One call, and the end. What was seen in the turn still holds at the end, whoever called in
+/// between.
 pub fn call_and_close<R: Wait>(
     rt: &R,
     stile: &Turnstile<Tally>,

@@ -13,7 +13,8 @@ use std::sync::Wait;
 use std::thread::{Threads, join, yield_now};
 use turnstile::{Entrance, Seat, Turnstile};
 
-/// Calls until the history shows a call of the other side, at most `turns` times, and says whether it does. It gives up after all of its turns, and no sooner.
+/// Calls until the history shows a call of the other side, at most `turns` times, and says whether it
+/// does. It gives up after all of its turns, and no sooner.
 pub fn meet<R: Wait>(
     rt: &R,
     stile: &Turnstile<Tally>,

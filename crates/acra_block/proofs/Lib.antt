@@ -1,5 +1,5 @@
 mod Cutting
 mod Pieces
 mod Formed
-mod Spelled
-mod Sealed
+pub mod Spelled
+pub mod Sealed

@@ -16,7 +16,7 @@ use Rattle.plain_tables.specs.Requests.{Request, Phase, phase_after_all, is_open
 use Rattle.plain_tables.specs.BadMessages.{IsBad, IsCut}
 use Rattle.plain_tables.proofs.Requested.{said_frame}
 use Rattle.plain_tables.proofs.Faulty.{bad_stays, bad_says_nothing}
-use Rattle.lab_session.specs.Cells.{Keys}
+use Rattle.acra_block.specs.Keys.{Key}
 use Rattle.lab_session.specs.Runs.{started, answers}
 use Rattle.lab_core.specs.Words.{IsSession, number_of}
 use Rattle.lab_session.specs.ClientKey.{client_drawn}
@@ -69,12 +69,12 @@ cut : (xs ys zs : List ℕ) → (xs ++ ys) ++ zs ≡ xs → ys ≡ []
 cut xs ys zs e = length_zero ys (omega (arith, ap length e, length-append (xs ++ ys) zs, length-append xs ys))
 
 -- what a session did that answered all that it took
-record Whole (keys : Keys) (g0 : ChaCha) (client unread before after : List ℕ) (answered : List Request) (rest : List ℕ) : Type 0 where
+record Whole (keys : Key) (g0 : ChaCha) (client unread before after : List ℕ) (answered : List Request) (rest : List ℕ) : Type 0 where
   pub each : AreSaid Phase.Opening answered
   pub whole : client ≡ stream_of answered (rest ++ unread)
   pub sent : after ≡ before ++ answers keys (started g0) answered
 
-module _ (keys : Keys) (g0 : ChaCha) (client unread before after : List ℕ) (tables : List (List Cell)) where
+module _ (keys : Key) (g0 : ChaCha) (client unread before after : List ℕ) (tables : List (List Cell)) where
   whole : (status : Status) (answered begun : List Request) (rest : List ℕ) → may_begin status ≡ false → Ran keys g0 (Some client) (Some unread) (Some before) (Some after) tables status answered begun rest
       → Whole keys g0 client unread before after answered rest
   whole status answered begun rest may r =
@@ -95,15 +95,15 @@ one_at_most status (r ∷ []) m = omega arith
 one_at_most status (r ∷ q ∷ qs) m = absurd m
 
 -- the keys of a client, and its session's generator
-abbrev keys_of : List ℕ → ℕ → Keys
-keys_of name seed = record { client = name; key = (client_drawn seed).0 }
+abbrev keys_of : List ℕ → ℕ → Key
+keys_of name seed = (client_drawn name seed).0
 
 module _ (name : List ℕ) (seed : ℕ) (client unread before after : List ℕ) (tables : List (List Cell)) where
   abbrev Run : Status → List Request → List Request → List ℕ → Type 0
-  Run status answered begun rest = Ran (keys_of name seed) (client_drawn seed).1 (Some client) (Some unread) (Some before) (Some after) tables status answered begun rest
+  Run status answered begun rest = Ran (keys_of name seed) (client_drawn name seed).1 (Some client) (Some unread) (Some before) (Some after) tables status answered begun rest
 
   abbrev All : List Request → List ℕ → Type 0
-  All answered rest = Whole (keys_of name seed) (client_drawn seed).1 client unread before after answered rest
+  All answered rest = Whole (keys_of name seed) (client_drawn name seed).1 client unread before after answered rest
 
   done : (answered begun : List Request) (rest : List ℕ) → Run ends.Done answered begun rest → AllAnswered name seed client before after
   done answered begun rest r =
@@ -227,7 +227,7 @@ module _ (name : List ℕ) (seed : ℕ) (client unread before after : List ℕ) 
 -- ---- where it is told
 
 pub headline_of : (name : List ℕ) (seed : ℕ) (left0 left held0 held : Option (List ℕ)) (tables : List (List Cell)) (status : Status) (answered begun : List Request) (rest : List ℕ)
-    → Ran (keys_of name seed) (client_drawn seed).1 left0 left held0 held tables status answered begun rest → WhereTold left0 left held0 held (Headline name seed status)
+    → Ran (keys_of name seed) (client_drawn name seed).1 left0 left held0 held tables status answered begun rest → WhereTold left0 left held0 held (Headline name seed status)
 headline_of name seed (Some client) (Some unread) (Some before) (Some after) tables status answered begun rest r = told name seed client unread before after tables status answered begun rest r
 headline_of name seed None left held0 held tables status answered begun rest r = tt
 headline_of name seed (Some client) None held0 held tables status answered begun rest r = tt
@@ -235,7 +235,7 @@ headline_of name seed (Some client) (Some unread) None held tables status answer
 headline_of name seed (Some client) (Some unread) (Some before) None tables status answered begun rest r = tt
 
 pub due_of : (name : List ℕ) (seed : ℕ) (left0 left held0 held : Option (List ℕ)) (tables : List (List Cell)) (status : Status) (answered begun : List Request) (rest : List ℕ)
-    → Ran (keys_of name seed) (client_drawn seed).1 left0 left held0 held tables status answered begun rest → WhereTold left0 left held0 held (IsDue name seed status)
+    → Ran (keys_of name seed) (client_drawn name seed).1 left0 left held0 held tables status answered begun rest → WhereTold left0 left held0 held (IsDue name seed status)
 due_of name seed (Some client) (Some unread) (Some before) (Some after) tables status answered begun rest r = is_due name seed client unread before after status (told name seed client unread before after tables status answered begun rest r)
 due_of name seed None left held0 held tables status answered begun rest r = tt
 due_of name seed (Some client) None held0 held tables status answered begun rest r = tt
@@ -259,11 +259,11 @@ one_session words a b m n s t =
     )
 
 -- a session that ran under the words ran for any client and seed that they name
-pub named : (words : List (List ℕ)) (name : List ℕ) (seed : ℕ) (found key : List ℕ) (of : ℕ) (g0 : ChaCha) (left0 left held0 held : Option (List ℕ)) (tables : List (List Cell)) (status : Status) (answered begun : List Request) (rest : List ℕ)
-    → IsSession words found of → IsSession words name seed → (key, g0) ≡ client_drawn of → Ran (record { client = found; key = key }) g0 left0 left held0 held tables status answered begun rest
-    → Ran (keys_of name seed) (client_drawn seed).1 left0 left held0 held tables status answered begun rest
+pub named : (words : List (List ℕ)) (name : List ℕ) (seed : ℕ) (found : List ℕ) (key : Key) (of : ℕ) (g0 : ChaCha) (left0 left held0 held : Option (List ℕ)) (tables : List (List Cell)) (status : Status) (answered begun : List Request) (rest : List ℕ)
+    → IsSession words found of → IsSession words name seed → (key, g0) ≡ client_drawn found of → Ran key g0 left0 left held0 held tables status answered begun rest
+    → Ran (keys_of name seed) (client_drawn name seed).1 left0 left held0 held tables status answered begun rest
 named words name seed found key of g0 left0 left held0 held tables status answered begun rest a b drawn r =
     let e = one_session words found name of seed a b in
-    let by_seed = subst (λ (d : List ℕ × ChaCha). Ran (record { client = found; key = d.0 }) d.1 left0 left held0 held tables status answered begun rest) drawn r in
-    let by_name = subst (λ (client : List ℕ). Ran (keys_of client of) (client_drawn of).1 left0 left held0 held tables status answered begun rest) e.0 by_seed in
-    subst (λ (n : ℕ). Ran (keys_of name n) (client_drawn n).1 left0 left held0 held tables status answered begun rest) e.1 by_name
+    let by_seed = subst (λ (d : Key × ChaCha). Ran d.0 d.1 left0 left held0 held tables status answered begun rest) drawn r in
+    let by_name = subst (λ (client : List ℕ). Ran (keys_of client of) (client_drawn client of).1 left0 left held0 held tables status answered begun rest) e.0 by_seed in
+    subst (λ (n : ℕ). Ran (keys_of name n) (client_drawn name n).1 left0 left held0 held tables status answered begun rest) e.1 by_name

@@ -78,5 +78,5 @@ abbrev tail_messages : List ℕ → List ℕ
 tail_messages one = reply_bytes (backs.Complete (codes "INSERT 0 " ++ one) ∷ ready ∷ []) ++ (reply_bytes (backs.Row (body_field ∷ []) ∷ backs.Cells (Some (codes "it's") ∷ []) ∷ backs.Complete (codes "SELECT " ++ one) ∷ ready ∷ []) ++ [])
 
 -- whatever is drawn
-pub example_answers : (key : List ℕ) (g : ChaCha) → answers (record { client = codes "app"; key = key }) (started g) example_requests ≡ example_reply
-example_answers key g = subst (λ one. reply_bytes (startup_messages 1) ++ tail_messages one ≡ example_reply) (sym one_digit) refl
+pub example_answers : (id : ℕ) (key search : List ℕ) (g : ChaCha) → answers (record { owner = codes "app"; id = id; key = key; search = search }) (started g) example_requests ≡ example_reply
+example_answers id key search g = subst (λ one. reply_bytes (startup_messages 1) ++ tail_messages one ≡ example_reply) (sym one_digit) refl

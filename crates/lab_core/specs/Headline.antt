@@ -4,7 +4,6 @@ use Rattle.std.specs.List.{flat_map}
 use Rattle.pg_wire.specs.declared.frame.MessageFault.{MessageFault}
 use Rattle.plain_tables.specs.Requests.{Request, Phase, phase_after_all, AreSaid, request_bytes, stream_of, Splits}
 use Rattle.plain_tables.specs.BadMessages.{IsBad, IsCut}
-use Rattle.lab_session.specs.Cells.{Keys}
 use Rattle.lab_session.specs.Runs.{started, answers}
 use Rattle.lab_session.specs.ClientKey.{client_drawn}
 use Rattle.lab_session.specs.declared.status.Status.{Status}
@@ -17,7 +16,7 @@ WhereTold left unread before after P = Unit {0}
 
 -- the replies to a client's requests under a seed
 abbrev pub replies_to : List ℕ → ℕ → List Request → List ℕ
-replies_to name seed requests = let drawn = client_drawn seed in answers (record { client = name; key = drawn.0 }) (started drawn.1) requests
+replies_to name seed requests = let drawn = client_drawn name seed in answers drawn.0 (started drawn.1) requests
 
 -- the input is whole requests, or goes on behind the end of the session
 abbrev pub IsOver : List Request → List ℕ → Type 0

@@ -29,7 +29,7 @@ pub fn lab_top<S: Source, K: Sink>(
     match session_words(words) {
         None => Status::Usage,
         Some((client, seed)) => {
-            let (key, mut random) = client_key(seed);
+            let (key, mut random) = client_key(client, seed);
             let mut backend = LabBackend::new(alloc, Tables::new(alloc), 1);
             first_session(
                 alloc,

@@ -36,7 +36,8 @@ use Rattle.plain_tables.specs.Standing.{stored_rows, StandFor}
 use Rattle.plain_tables.specs.Shown.{shown_message}
 use Rattle.plain_tables.proofs.Carried.{rows_stored}
 use Rattle.plain_tables.proofs.Shows.{reply_shown}
-use Rattle.lab_session.specs.Cells.{Keys, IsStored, opened_text}
+use Rattle.acra_block.specs.Keys.{Key}
+use Rattle.lab_session.specs.Cells.{IsUsable, IsStored, opened_text}
 use Rattle.lab_session.specs.Runs.{State, written, cell_for, drawn_for, state_after, answer}
 use Rattle.lab_session.specs.Session.{SentFront, Rests}
 use Rattle.lab_session.specs.Relaying.{IsIdle, CanSend, Forwards, Breaks, ForwardGives, Sends}
@@ -50,10 +51,10 @@ use Rattle.lab_session.proofs.Sending.{sent_is_statement, sent_length}
 use Rattle.lab_session.proofs.Positive.{sent_is_text}
 use Rattle.lab_session.proofs.Meant.{meant_after, cell_length}
 
-sent_short : (keys : Keys) (g : ChaCha) (tree : Statement) → IsStatement tree → has_short_strings tree ≡ true → length (sent_text keys g tree) ≤ 2 ^ 21
+sent_short : (keys : Key) (g : ChaCha) (tree : Statement) → IsStatement tree → has_short_strings tree ≡ true → length (sent_text keys g tree) ≤ 2 ^ 21
 sent_short keys g tree s h = omega (arith, sent_length (cell_for keys g (written tree)) tree s, cell_length keys g tree s h)
 
-pub can_send : (keys : Keys) (g : ChaCha) (tree : Statement) (opening : Bool) → opening ≡ false → IsStatement tree → has_short_strings tree ≡ true → IsBytes (cell_for keys g (written tree)) → CanSend opening (fronts.Query (sent_text keys g tree))
+pub can_send : (keys : Key) (g : ChaCha) (tree : Statement) (opening : Bool) → opening ≡ false → IsStatement tree → has_short_strings tree ≡ true → IsBytes (cell_for keys g (written tree)) → CanSend opening (fronts.Query (sent_text keys g tree))
 can_send keys g tree opening e s h bytes =
     let short = sent_short keys g tree s h in
     let long = length-append (sent_text keys g tree) (0 ∷ []) in
@@ -68,8 +69,8 @@ bytes_again cell h = ap result_ok (decode_of-encode_lower cell h)
 
 -- ---- a statement
 
-module _ (keys : Keys) (s : State) (lab : Lab) (text : List ℕ) (tree : Statement) (ps : List Bool) (rests : Rests keys lab s false) (is : IsStatement tree) (short : has_short_strings tree ≡ true) (bytes : IsBytes (cell_for keys s.coming (written tree)))
-    (protected : ps ≡ protected_of tree) where
+module _ (keys : Key) (s : State) (lab : Lab) (text : List ℕ) (tree : Statement) (ps : List Bool) (rests : Rests keys lab s false) (is : IsStatement tree) (short : has_short_strings tree ≡ true) (bytes : IsBytes (cell_for keys s.coming (written tree)))
+    (protected : ps ≡ protected_of tree) (usable : IsUsable keys) where
   abbrev cell : List ℕ
   cell = cell_for keys s.coming (written tree)
 
@@ -86,7 +87,7 @@ module _ (keys : Keys) (s : State) (lab : Lab) (text : List ℕ) (tree : Stateme
 
   pub rows_are : (messages : List Back) (after : List (List Cell)) → Answers (sent_text keys s.coming tree) lab.rows messages after → StandFor (IsStored keys) after (state_after keys s request).rows
   rows_are messages after a = record {
-    same = (answered_by messages after a).1 ∙ ap (λ (rows : List (List Cell)). rows_executed (rewritten cell tree) rows) rests.stand.same ∙ rows_stored keys.client cell tree s.rows is (bytes_again cell bytes);
+    same = (answered_by messages after a).1 ∙ ap (λ (rows : List (List Cell)). rows_executed (rewritten cell tree) rows) rests.stand.same ∙ rows_stored keys.owner cell tree s.rows is (bytes_again cell bytes);
     meant = meant_after keys s.coming tree s.rows is short bytes rests.stand.meant;
   }
 
@@ -94,7 +95,7 @@ module _ (keys : Keys) (s : State) (lab : Lab) (text : List ℕ) (tree : Stateme
   shown_is messages after a =
       ap (λ (ms : List Back). reply_bytes (map show ms)) ((answered_by messages after a).0 ∙ ap (λ (rows : List (List Cell)). messages_of (executed (rewritten cell tree) rows) ++ ready ∷ []) rests.stand.same)
       ∙ ap (λ (qs : List Bool). reply_bytes (map (shown_message (opened_text keys) qs) (messages_of (executed (rewritten cell tree) (stored_rows s.rows)) ++ ready ∷ []))) protected
-      ∙ ap reply_bytes (reply_shown keys.client (opened_text keys) cell tree s.rows is (bytes_again cell bytes) (rows_open keys s.rows rests.stand.meant))
+      ∙ ap reply_bytes (reply_shown keys.owner (opened_text keys) cell tree s.rows is (bytes_again cell bytes) (rows_open keys usable s.rows rests.stand.meant))
 
   pub statement_answered : {T E : Type 0} (result : Result T E) (g' : ChaCha) (lab' : Lab) (old new : Option (List ℕ)) → ForwardGives show lab (fronts.Query (sent_text keys s.coming tree)) result lab' old new → g' ≡ drawn_for s.coming (written tree)
       → AnswerGives keys false s request result g' lab' old new
@@ -122,7 +123,7 @@ module _ (keys : Keys) (s : State) (lab : Lab) (text : List ℕ) (tree : Stateme
 
 -- ---- the startup message
 
-module _ (keys : Keys) (s : State) (lab : Lab) (text : List ℕ) (params : List Pair) (rests : Rests keys lab s true) where
+module _ (keys : Key) (s : State) (lab : Lab) (text : List ℕ) (params : List Pair) (rests : Rests keys lab s true) where
   abbrev shows : Back → Back
   shows = shown_message (opened_text keys) []
 
@@ -153,34 +154,34 @@ module _ (keys : Keys) (s : State) (lab : Lab) (text : List ℕ) (params : List 
   }
 
 -- nothing was sent to the backend
-pub not_begun : (T E : Type 0) (keys : Keys) (s : State) (r : Request) (e : E) (g' : ChaCha) (lab : Lab) (awaits : Bool) (held : Option (List ℕ)) → Rests keys lab s awaits → AnswerGives {T = T} {E = E} keys awaits s r (Err e) g' lab held held
+pub not_begun : (T E : Type 0) (keys : Key) (s : State) (r : Request) (e : E) (g' : ChaCha) (lab : Lab) (awaits : Bool) (held : Option (List ℕ)) → Rests keys lab s awaits → AnswerGives {T = T} {E = E} keys awaits s r (Err e) g' lab held held
 not_begun T E keys s r e g' lab awaits held rests = record { stand = inl rests.stand; sent = ([], answer keys s r, refl, grew_nothing held) }
 
 -- a backend whose tables stand is idle
-pub idle_of : (keys : Keys) (lab : Lab) (s : State) (awaits : Bool) → Rests keys lab s awaits → IsIdle lab
+pub idle_of : (keys : Key) (lab : Lab) (s : State) (awaits : Bool) → Rests keys lab s awaits → IsIdle lab
 idle_of keys lab s awaits r = record { unclosed = r.unclosed; who = r.who; limit = r.limit; idle = r.idle }
 
 -- what was planned for a statement may be sent
-pub plan_sends : (keys : Keys) (g g' : ChaCha) (tree : Statement) (plan : Plan) (opening : Bool) → IsPlan keys g g' tree plan → (opening ≡ false) × IsStatement tree × (has_short_strings tree ≡ true) → CanSend opening plan.request
+pub plan_sends : (keys : Key) (g g' : ChaCha) (tree : Statement) (plan : Plan) (opening : Bool) → IsPlan keys g g' tree plan → (opening ≡ false) × IsStatement tree × (has_short_strings tree ≡ true) → CanSend opening plan.request
 plan_sends keys g g' tree plan opening p can = subst (λ (q : Front). CanSend opening q) (sym p.request) (can_send keys g tree opening can.0 can.1 can.2 p.bytes)
 
 -- what was planned for a statement is answered as the plaintext tables answer it
-pub plan_answered : {T E : Type 0} (keys : Keys) (s : State) (lab : Lab) (text : List ℕ) (tree : Statement) (g g' : ChaCha) (plan : Plan) (shown : List Bool) (result : Result T E) (lab' : Lab) (old new : Option (List ℕ))
-    → IsPlan keys g g' tree plan → (lab.stream.opening ≡ false) × IsStatement tree × (has_short_strings tree ≡ true) → Rests keys lab s lab.stream.opening → g ≡ s.coming → shown ≡ plan.protected.items
+pub plan_answered : {T E : Type 0} (keys : Key) (s : State) (lab : Lab) (text : List ℕ) (tree : Statement) (g g' : ChaCha) (plan : Plan) (shown : List Bool) (result : Result T E) (lab' : Lab) (old new : Option (List ℕ))
+    → IsPlan keys g g' tree plan → IsUsable keys → (lab.stream.opening ≡ false) × IsStatement tree × (has_short_strings tree ≡ true) → Rests keys lab s lab.stream.opening → g ≡ s.coming → shown ≡ plan.protected.items
     → ForwardGives (shown_message (opened_text keys) shown) lab plan.request result lab' old new → AnswerGives keys lab.stream.opening s (Request.Asks text tree) result g' lab' old new
-plan_answered keys s lab text tree g g' plan shown result lab' old new p can rests eg es f =
+plan_answered keys s lab text tree g g' plan shown result lab' old new p usable can rests eg es f =
     let rests' = subst (λ (b : Bool). Rests keys lab s b) can.0 rests in
     let bytes' = subst (λ (h : ChaCha). IsBytes (cell_for keys h (written tree))) eg p.bytes in
     let request' = p.request ∙ ap (λ (h : ChaCha). fronts.Query (sent_text keys h tree)) eg in
     subst (λ (b : Bool). AnswerGives keys b s (Request.Asks text tree) result g' lab' old new) (sym can.0)
     (
-    statement_answered keys s lab text tree shown rests' can.1 can.2 bytes' (es ∙ p.protected) result g' lab' old new (subst (λ (q : Front). ForwardGives (shown_message (opened_text keys) shown) lab q result lab' old new) request' f)
+    statement_answered keys s lab text tree shown rests' can.1 can.2 bytes' (es ∙ p.protected) usable result g' lab' old new (subst (λ (q : Front). ForwardGives (shown_message (opened_text keys) shown) lab q result lab' old new) request' f)
     (p.drawn ∙ ap (λ (h : ChaCha). drawn_for h (written tree)) eg)
     )
 
 -- ---- what is answered without the backend
 
-pub answered_alone : {T E : Type 0} (keys : Keys) (s : State) (lab : Lab) (awaits : Bool) (r : Request) (result : Result T E) (g : ChaCha) (old new : Option (List ℕ)) → state_after keys s r ≡ s → awaits_after awaits r ≡ awaits → Rests keys lab s awaits → g ≡ s.coming → Sends old new result (answer keys s r)
+pub answered_alone : {T E : Type 0} (keys : Key) (s : State) (lab : Lab) (awaits : Bool) (r : Request) (result : Result T E) (g : ChaCha) (old new : Option (List ℕ)) → state_after keys s r ≡ s → awaits_after awaits r ≡ awaits → Rests keys lab s awaits → g ≡ s.coming → Sends old new result (answer keys s r)
     → AnswerGives keys awaits s r result g lab old new
 answered_alone keys s lab awaits r (Ok t) g old new es ea rests eg sent = record {
   rests = subst (λ (b : Bool). Rests keys lab (state_after keys s r) b) (sym ea) (subst (λ (u : State). Rests keys lab u awaits) (sym es) rests);
@@ -189,15 +190,15 @@ answered_alone keys s lab awaits r (Ok t) g old new es ea rests eg sent = record
 }
 answered_alone keys s lab awaits r (Err e) g old new es ea rests eg sent = record { stand = inl rests.stand; sent = sent }
 
-pub declined : {T E : Type 0} (keys : Keys) (s : State) (lab : Lab) (awaits : Bool) (how : Encryption) (result : Result T E) (g : ChaCha) (old new : Option (List ℕ)) → Rests keys lab s awaits → g ≡ s.coming → Sends old new result (78 ∷ []) → AnswerGives keys awaits s (Request.Encrypts how) result g lab old new
+pub declined : {T E : Type 0} (keys : Key) (s : State) (lab : Lab) (awaits : Bool) (how : Encryption) (result : Result T E) (g : ChaCha) (old new : Option (List ℕ)) → Rests keys lab s awaits → g ≡ s.coming → Sends old new result (78 ∷ []) → AnswerGives keys awaits s (Request.Encrypts how) result g lab old new
 declined keys s lab awaits how result g old new rests eg sent = answered_alone keys s lab awaits (Request.Encrypts how) result g old new refl (opening_of awaits) rests eg sent
 
-pub refused : {T E : Type 0} (keys : Keys) (s : State) (lab : Lab) (awaits : Bool) (text : List ℕ) (result : Result T E) (g : ChaCha) (old new : Option (List ℕ)) → Rests keys lab s awaits → g ≡ s.coming → Sends old new result (reply_bytes (not_in_profile ∷ ready ∷ [])) → AnswerGives keys awaits s (Request.Refused text) result g lab old new
+pub refused : {T E : Type 0} (keys : Key) (s : State) (lab : Lab) (awaits : Bool) (text : List ℕ) (result : Result T E) (g : ChaCha) (old new : Option (List ℕ)) → Rests keys lab s awaits → g ≡ s.coming → Sends old new result (reply_bytes (not_in_profile ∷ ready ∷ [])) → AnswerGives keys awaits s (Request.Refused text) result g lab old new
 refused keys s lab awaits text result g old new rests eg sent = answered_alone keys s lab awaits (Request.Refused text) result g old new refl (opening_of awaits) rests eg sent
 
 -- ---- the answers, by what was said
 
-pub startup_given : {T E : Type 0} (keys : Keys) (s : State) (lab : Lab) (text : List ℕ) (what : Said) (params : List Pair) (result : Result T E) (g : ChaCha) (lab' : Lab) (old new : Option (List ℕ)) → what ≡ said.Opens params → CanAnswer lab.stream.opening what → Rests keys lab s lab.stream.opening → g ≡ s.coming
+pub startup_given : {T E : Type 0} (keys : Key) (s : State) (lab : Lab) (text : List ℕ) (what : Said) (params : List Pair) (result : Result T E) (g : ChaCha) (lab' : Lab) (old new : Option (List ℕ)) → what ≡ said.Opens params → CanAnswer lab.stream.opening what → Rests keys lab s lab.stream.opening → g ≡ s.coming
     → ForwardGives (shown_message (opened_text keys) []) lab (fronts.Startup params) result lab' old new → AnswerGives keys lab.stream.opening s (request_of text what) result g lab' old new
 startup_given keys s lab text what params result g lab' old new e can rests eg f =
     let here = subst (λ (w : Said). CanAnswer lab.stream.opening w) e can in
@@ -205,7 +206,7 @@ startup_given keys s lab text what params result g lab' old new e can rests eg f
     subst (λ (w : Said). AnswerGives keys lab.stream.opening s (request_of text w) result g lab' old new) (sym e)
     (subst (λ (b : Bool). AnswerGives keys b s (Request.Opens params) result g lab' old new) (sym here.0) given)
 
-pub refused_given : {T E : Type 0} (keys : Keys) (s : State) (lab : Lab) (text : List ℕ) (what : Said) (result : Result T E) (g : ChaCha) (old new : Option (List ℕ)) → what ≡ said.Refused → Rests keys lab s lab.stream.opening → g ≡ s.coming → Sends old new result (reply_bytes (not_in_profile ∷ ready ∷ []))
+pub refused_given : {T E : Type 0} (keys : Key) (s : State) (lab : Lab) (text : List ℕ) (what : Said) (result : Result T E) (g : ChaCha) (old new : Option (List ℕ)) → what ≡ said.Refused → Rests keys lab s lab.stream.opening → g ≡ s.coming → Sends old new result (reply_bytes (not_in_profile ∷ ready ∷ []))
     → AnswerGives keys lab.stream.opening s (request_of text what) result g lab old new
 refused_given keys s lab text what result g old new e rests eg sent =
     subst (λ (w : Said). AnswerGives keys lab.stream.opening s (request_of text w) result g lab old new) (sym e) (refused keys s lab lab.stream.opening text result g old new rests eg sent)

@@ -1,4 +1,3 @@
-pub mod Packing
 pub mod Protecting
 pub mod Opened
 pub mod Sending

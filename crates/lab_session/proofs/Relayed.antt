@@ -1,5 +1,6 @@
 -- A reply is read message by message, and shown as it is read.
 use Rattle.std.proofs.Common.{◌≡◌, ◌≢◌, ℕ, ◌+◌, ◌^◌, ◌≤◌, ◌<◌, ◌==◌, zero, suc, take, drop, if◌then◌else◌, Bool, true, false, ◌&&◌, List, [], ◌∷◌, ◌++◌, length, map, Option, Some, None, Result, Ok, Err, refl, sym, ap, subst, ◌∙◌, append_assoc, arith}
+use Rattle.std.specs.Result.{IsErr}
 use Rattle.std.specs.List.{flat_map, AllByRecursion}
 use Rattle.std.specs.Int.{w32, to_be_bytes}
 use Rattle.std.proofs.lemmas.List.{append-nil, length-append, take-append-drop}
@@ -231,6 +232,11 @@ nothing_sent held bytes = ([], bytes, refl, grew_nothing held)
 -- what was sent, by bytes that are equal
 pub sent_as : {T E : Type 0} (old new : Option (List ℕ)) (result : Result T E) (bytes all : List ℕ) → bytes ≡ all → Sends old new result bytes → Sends old new result all
 sent_as old new result bytes all e h = subst (λ (xs : List ℕ). Sends old new result xs) e h
+
+-- an error, before anything was sent
+pub failed_sends : {T E : Type 0} (old : Option (List ℕ)) (result : Result T E) (all : List ℕ) → IsErr result → Sends old old result all
+failed_sends old (Ok t) all h = absurd cc
+failed_sends old (Err e) all h = ([], all, refl, grew_nothing old)
 
 -- a front of the bytes was sent
 pub front_sent : (old new : Option (List ℕ)) (bytes all : List ℕ) (n : ℕ) → bytes ≡ all → Grew old new (take n bytes) → SentFront old new all

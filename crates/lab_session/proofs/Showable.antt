@@ -1,5 +1,5 @@
 -- What is shown of a message can be written: it is no longer than the message.
-use Rattle.std.proofs.Common.{◌≡◌, ℕ, ◌+◌, ◌*◌, ◌^◌, ◌≤◌, ◌<◌, nat_eq, Bool, true, false, List, [], ◌∷◌, ◌++◌, length, take, drop, Option, Some, None, Result, Ok, Err, lit<, suc, rules, refl, sym, ap, subst, ◌∙◌, arith, if◌then◌else◌}
+use Rattle.std.proofs.Common.{◌≡◌, ℕ, ◌+◌, ◌*◌, ◌^◌, ◌≤◌, ◌<◌, nat_eq, nat_lt, Bool, true, false, List, [], ◌∷◌, ◌++◌, length, take, drop, Option, Some, None, Result, Ok, Err, lit<, suc, rules, refl, sym, ap, subst, ◌∙◌, arith, if◌then◌else◌}
 use Rattle.std.specs.List.{AllByRecursion, flat_map}
 use Rattle.std.specs.Option.{option_and_then}
 use Rattle.std.specs.Result.{result_ok}
@@ -10,7 +10,14 @@ use Rattle.std.proofs.lemmas.List.{length-append, length-drop}
 use Rattle.hex.specs.Hex.{decode_of}
 use Rattle.hex.specs.declared.FromHexError.{FromHexError}
 use Rattle.hex.proofs.HexLemmas.{decode_of-ok}
-use Rattle.acra_base.specs.Trial.{trial_only, trial_longer}
+use Rattle.acra_crypto.specs.Aes.{aes256}
+use Rattle.acra_crypto.specs.Sealed.{gcm_only, length-gcm_sealed}
+use Rattle.acra_block.specs.declared.container.Container.{Container}
+use Rattle.acra_block.specs.declared.keys.KeyView.{KeyView}
+use Rattle.acra_block.specs.declared.opening.Opened.TheVariants as answers
+use Rattle.acra_block.specs.Keys.{key_of}
+use Rattle.acra_block.specs.Containers.{container_of, opened_key, opened_value, opened_container}
+use Rattle.acra_block.specs.Cells.{Parts, rest_opened, key_found, container_found}
 use Rattle.pg_wire.specs.declared.back.Field.{Field}
 use Rattle.pg_wire.specs.declared.back.Back.{Back}
 use Rattle.pg_wire.specs.declared.back.Back.TheVariants as backs
@@ -19,8 +26,7 @@ use Rattle.pg_wire.specs.Backs.{IsField, field_bytes, IsCell, cell_bytes, IsBack
 use Rattle.table_machine.specs.Replies.{IsWritable}
 use Rattle.table_machine.proofs.Lengths.{length-field_bytes}
 use Rattle.plain_tables.specs.Shown.{as_text, where_protected, described, opened_or, shown_cell, shown_cells, shown_message}
-use Rattle.lab_session.specs.Containers.{is_container, opened_key, opened_value, opened_container}
-use Rattle.lab_session.specs.Cells.{opening, Keys, text_bytes, opened_text}
+use Rattle.lab_session.specs.Cells.{opening, text_bytes, value_of, value_in, opened_by}
 
 -- ---- what opens is shorter than its text
 
@@ -28,17 +34,38 @@ decoded : (r : Result (List ℕ) FromHexError) (bytes : List ℕ) → result_ok 
 decoded (Ok found) bytes e = cc
 decoded (Err why) bytes e = absurd cc
 
-container_shorter : (keys : Keys) (cell plain : List ℕ) → opened_container opening keys.client 1 keys.key cell ≡ Some plain → length plain ≤ length cell
-container_shorter keys cell plain e = by (is_container 1 cell) e
+container_shorter : (owner key bytes plain : List ℕ) → opened_container opening owner key bytes ≡ Some plain → length plain ≤ length bytes
+container_shorter owner key bytes plain e =
+    option_and_then_some (opened_value opening owner bytes) (opened_key opening owner key bytes) plain e (λ (data_key : List ℕ) k v. value data_key v)
   where
-    value : (data_key : List ℕ) → opened_value opening keys.client cell data_key ≡ Some plain → length plain ≤ length cell
+    value : (data_key : List ℕ) → opened_value opening owner bytes data_key ≡ Some plain → length plain ≤ length bytes
     value data_key v =
-        let seal = trial_only data_key (take 12 (drop 84 cell)) (drop 96 cell) plain v in
-        omega (arith, ap length seal, trial_longer data_key (take 12 (drop 84 cell)) plain, length-drop 96 cell)
+        let seal = gcm_only (aes256 data_key) (take 12 (drop 84 bytes)) owner (drop 96 bytes) plain v in
+        omega (arith, ap length seal, length-gcm_sealed (aes256 data_key) (take 12 (drop 84 bytes)) owner plain, length-drop 96 bytes)
 
-    by : (b : Bool) → (if b then option_and_then (opened_value opening keys.client cell) (opened_key opening keys.client cell keys.key) else None) ≡ Some plain → length plain ≤ length cell
-    by true o = option_and_then_some (opened_value opening keys.client cell) (opened_key opening keys.client cell keys.key) plain o (λ (data_key : List ℕ) k v. value data_key v)
-    by false o = absurd cc
+-- ---- by what a sealed cell opens to
+
+abbrev whole_parts : List ℕ → Parts
+whole_parts bytes = record { left = true; plain = []; sealed = bytes }
+
+rest_shorter : (owner key bytes plain : List ℕ) (found : Option (List ℕ)) → opened_container opening owner key bytes ≡ found → value_of (rest_opened (whole_parts bytes) found) ≡ Some plain → length plain ≤ length bytes
+rest_shorter owner key bytes plain (Some rest) e h = container_shorter owner key bytes plain (e ∙ h)
+rest_shorter owner key bytes plain None e h = absurd cc
+
+key_shorter : (owner bytes plain : List ℕ) (found : Option (List ℕ)) → value_of (key_found opening owner (whole_parts bytes) found) ≡ Some plain → length plain ≤ length bytes
+key_shorter owner bytes plain (Some key) h = rest_shorter owner key bytes plain (opened_container opening owner key bytes) refl h
+key_shorter owner bytes plain None h = absurd cc
+
+told_shorter : (view : KeyView) (bytes plain : List ℕ) (found : Option Container) → value_of (container_found opening view (whole_parts bytes) found) ≡ Some plain → length plain ≤ length bytes
+told_shorter view bytes plain None h = absurd cc
+told_shorter view bytes plain (Some c) h = by (nat_lt c.id view.next_id) h
+  where
+    by : (b : Bool) → value_of (if b then key_found opening view.who (whole_parts bytes) (key_of c.id view.keys) else (answers.UnknownKey c.id, [])) ≡ Some plain → length plain ≤ length bytes
+    by true k = key_shorter view.who bytes plain (key_of c.id view.keys) k
+    by false k = absurd cc
+
+value_shorter : (view : KeyView) (bytes plain : List ℕ) → value_in view bytes ≡ Some plain → length plain ≤ length bytes
+value_shorter view bytes plain h = told_shorter view bytes plain (container_of bytes) h
 
 bytes_shorter : (text cell : List ℕ) → text_bytes text ≡ Some cell → length cell ≤ length text
 bytes_shorter text cell e = by (pointwise nat_eq (take 2 text) (92 ∷ 120 ∷ [])) e
@@ -47,30 +74,30 @@ bytes_shorter text cell e = by (pointwise nat_eq (take 2 text) (92 ∷ 120 ∷ [
     by true o = let d = decode_of-ok (drop 2 text) cell (decoded (decode_of (drop 2 text)) cell o) in omega (arith, d.2, length-drop 2 text)
     by false o = absurd cc
 
-pub opened_shorter : (keys : Keys) (text plain : List ℕ) → opened_text keys text ≡ Some plain → length plain ≤ length text
+pub opened_shorter : (keys : KeyView) (text plain : List ℕ) → opened_by keys text ≡ Some plain → length plain ≤ length text
 opened_shorter keys text plain e =
-    option_and_then_some (opened_container opening keys.client 1 keys.key) (text_bytes text) plain e (λ (cell : List ℕ) t o. omega (arith, bytes_shorter text cell t, container_shorter keys cell plain o))
+    option_and_then_some (value_in keys) (text_bytes text) plain e (λ (cell : List ℕ) t o. omega (arith, bytes_shorter text cell t, value_shorter keys cell plain o))
 
 -- ---- cells
 
-opened_or_shorter : (keys : Keys) (text : List ℕ) (found : Option (List ℕ)) → ((plain : List ℕ) → found ≡ Some plain → length plain ≤ length text) → length (opened_or (opened_text keys) text found) ≤ length text
+opened_or_shorter : (keys : KeyView) (text : List ℕ) (found : Option (List ℕ)) → ((plain : List ℕ) → found ≡ Some plain → length plain ≤ length text) → length (opened_or (opened_by keys) text found) ≤ length text
 opened_or_shorter keys text None h = omega arith
 opened_or_shorter keys text (Some plain) h = h plain refl
 
-text_shorter : (keys : Keys) (text : List ℕ) → length (opened_or (opened_text keys) text (opened_text keys text)) ≤ length text
-text_shorter keys text = opened_or_shorter keys text (opened_text keys text) (λ plain e. opened_shorter keys text plain e)
+text_shorter : (keys : KeyView) (text : List ℕ) → length (opened_or (opened_by keys) text (opened_by keys text)) ≤ length text
+text_shorter keys text = opened_or_shorter keys text (opened_by keys text) (λ plain e. opened_shorter keys text plain e)
 
-cell_stays : (keys : Keys) (c : Option (List ℕ)) → IsCell c → IsCell (shown_cell (opened_text keys) c)
+cell_stays : (keys : KeyView) (c : Option (List ℕ)) → IsCell c → IsCell (shown_cell (opened_by keys) c)
 cell_stays keys None h = tt
 cell_stays keys (Some text) h = omega (arith, text_shorter keys text)
 
 be_4 : (n : ℕ) → length (to_be_bytes w32 n) ≡ 4
 be_4 n = refl
 
-cell_shorter : (keys : Keys) (c : Option (List ℕ)) → length (cell_bytes (shown_cell (opened_text keys) c)) ≤ length (cell_bytes c)
+cell_shorter : (keys : KeyView) (c : Option (List ℕ)) → length (cell_bytes (shown_cell (opened_by keys) c)) ≤ length (cell_bytes c)
 cell_shorter keys None = omega arith
 cell_shorter keys (Some text) =
-    let shown = opened_or (opened_text keys) text (opened_text keys text) in
+    let shown = opened_or (opened_by keys) text (opened_by keys text) in
     omega (arith, text_shorter keys text, length-append (to_be_bytes w32 (length shown)) shown, length-append (to_be_bytes w32 (length text)) text, be_4 (length shown), be_4 (length text))
 
 -- ---- a change of items at protected places
@@ -111,14 +138,14 @@ field_shorter f = omega (arith, length-field_bytes f, length-field_bytes (as_tex
 
 -- ---- messages
 
-pub shown_writable : (keys : Keys) (ps : List Bool) (m : Back) → IsWritable m → IsWritable (shown_message (opened_text keys) ps m)
+pub shown_writable : (keys : KeyView) (ps : List Bool) (m : Back) → IsWritable m → IsWritable (shown_message (opened_by keys) ps m)
 shown_writable keys ps (backs.Row fields) w = record {
   spelled = (omega (arith, w.spelled.0, as_many as_text ps fields), all_stay as_text IsField field_stays ps fields w.spelled.1);
   short = let same = all_shorter as_text field_bytes field_shorter ps fields in omega (arith, w.short);
 }
 shown_writable keys ps (backs.Cells cells) w = record {
-  spelled = (omega (arith, w.spelled.0, as_many (shown_cell (opened_text keys)) ps cells), all_stay (shown_cell (opened_text keys)) IsCell (cell_stays keys) ps cells w.spelled.1);
-  short = let same = all_shorter (shown_cell (opened_text keys)) cell_bytes (cell_shorter keys) ps cells in omega (arith, w.short);
+  spelled = (omega (arith, w.spelled.0, as_many (shown_cell (opened_by keys)) ps cells), all_stay (shown_cell (opened_by keys)) IsCell (cell_stays keys) ps cells w.spelled.1);
+  short = let same = all_shorter (shown_cell (opened_by keys)) cell_bytes (cell_shorter keys) ps cells in omega (arith, w.short);
 }
 shown_writable keys ps (backs.Auth code rest) w = w
 shown_writable keys ps (backs.Status pair) w = w

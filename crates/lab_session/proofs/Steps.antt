@@ -20,7 +20,8 @@ use Rattle.plain_tables.specs.declared.encryption.Encryption.TheVariants as encr
 use Rattle.plain_tables.specs.Requests.{Request, Phase, phase_after, phase_after_all, is_opening, IsSaid, AreSaid, asking, message_of, request_bytes, stream_of, message_limit}
 use Rattle.plain_tables.specs.BadMessages.{IsBad, IsCut}
 use Rattle.plain_tables.specs.Standing.{StandFor}
-use Rattle.lab_session.specs.Cells.{Keys, IsStored}
+use Rattle.acra_block.specs.Keys.{Key}
+use Rattle.lab_session.specs.Cells.{IsStored}
 use Rattle.lab_session.specs.Runs.{State, started, state_after, state_after_all, answer, answers}
 use Rattle.lab_session.specs.Session.{PieceRead, PieceTaken, SentFront, Rests, SoFar, Ends, status_of, may_begin, MayBegin, Ran}
 use Rattle.lab_session.specs.Answering.{request_of, phase_of, awaits_after, Takes, NextGives, Answered, Broken}
@@ -52,11 +53,11 @@ phase_more : (p : Phase) (rs : List Request) (r : Request) → phase_after_all p
 phase_more p [] r = refl
 phase_more p (q ∷ rs) r = phase_more (phase_after p q) rs r
 
-state_more : (keys : Keys) (s : State) (rs : List Request) (r : Request) → state_after_all keys s (rs ++ r ∷ []) ≡ state_after keys (state_after_all keys s rs) r
+state_more : (keys : Key) (s : State) (rs : List Request) (r : Request) → state_after_all keys s (rs ++ r ∷ []) ≡ state_after keys (state_after_all keys s rs) r
 state_more keys s [] r = refl
 state_more keys s (q ∷ rs) r = state_more keys (state_after keys s q) rs r
 
-answers_more : (keys : Keys) (s : State) (rs : List Request) (r : Request) → answers keys s (rs ++ r ∷ []) ≡ answers keys s rs ++ answer keys (state_after_all keys s rs) r
+answers_more : (keys : Key) (s : State) (rs : List Request) (r : Request) → answers keys s (rs ++ r ∷ []) ≡ answers keys s rs ++ answer keys (state_after_all keys s rs) r
 answers_more keys s [] r = append-nil (answer keys s r)
 answers_more keys s (q ∷ rs) r =
     ap (λ (xs : List ℕ). answer keys s q ++ xs) (answers_more keys (state_after keys s q) rs r)
@@ -157,7 +158,7 @@ ends_stopped stops.ReadFault left rs rest = tt
 
 -- ---- moves
 
-pub starts : (keys : Keys) (g0 : ChaCha) (left held : Option (List ℕ)) (lab : Lab) (stream : Stream) → lab ≡ new_lab 1 [] → stream ≡ new_stream side.Client message_limit → SoFar keys g0 left held left held g0 lab stream 0 []
+pub starts : (keys : Key) (g0 : ChaCha) (left held : Option (List ℕ)) (lab : Lab) (stream : Stream) → lab ≡ new_lab 1 [] → stream ≡ new_stream side.Client message_limit → SoFar keys g0 left held left held g0 lab stream 0 []
 starts keys g0 left held lab stream el es = record {
   each = tt;
   serving = opening_not_over;
@@ -180,7 +181,7 @@ starts keys g0 left held lab stream el es = record {
   total = sym (rw (ap (λ (u : Stream). u.offset) es, ap (λ (u : Stream). u.left) es) refl);
 }
 
-module _ (keys : Keys) (g0 : ChaCha) (left0 held0 left held : Option (List ℕ)) (g : ChaCha) (lab : Lab) (stream : Stream) (taken : ℕ) (rs : List Request) (so : SoFar keys g0 left0 held0 left held g lab stream taken rs) where
+module _ (keys : Key) (g0 : ChaCha) (left0 held0 left held : Option (List ℕ)) (g : ChaCha) (lab : Lab) (stream : Stream) (taken : ℕ) (rs : List Request) (so : SoFar keys g0 left0 held0 left held g lab stream taken rs) where
   pub reads_on : (left' : Option (List ℕ)) (stream' : Stream) (n room : ℕ) → PieceRead left left' stream stream' n room → SoFar keys g0 left0 held0 left' held g lab stream' (taken + n) rs
   reads_on left' stream' n room p = record {
     each = so.each;

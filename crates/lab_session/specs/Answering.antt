@@ -13,7 +13,8 @@ use Rattle.table_machine.specs.Backend.{Lab}
 use Rattle.plain_tables.specs.Requests.{Request, Phase, phase_after, is_opening, IsSaid, message_of, request_bytes, message_limit, has_short_strings}
 use Rattle.plain_tables.specs.BadMessages.{IsBad}
 use Rattle.plain_tables.specs.Standing.{StandFor}
-use Rattle.lab_session.specs.Cells.{Keys, IsStored}
+use Rattle.acra_block.specs.Keys.{Key}
+use Rattle.lab_session.specs.Cells.{IsStored}
 use Rattle.lab_session.specs.Runs.{State, written, cell_for, drawn_for, state_after, answer}
 use Rattle.hex.specs.Hex.{IsBytes}
 use Rattle.sql_profile.specs.declared.statement.Statement.{Statement}
@@ -62,11 +63,11 @@ NextGives s (Err e) t = Unit {0}
 -- ---- a statement as it is sent on
 
 -- the text that is sent for a statement
-abbrev pub sent_text : Keys → ChaCha → Statement → List ℕ
+abbrev pub sent_text : Key → ChaCha → Statement → List ℕ
 sent_text keys g tree = canon (rewritten (cell_for keys g (written tree)) tree)
 
 -- the request for a statement, the protected columns of its result, and the generator then
-pub record IsPlan (keys : Keys) (g g' : ChaCha) (tree : Statement) (plan : Plan) : Type 0 where
+pub record IsPlan (keys : Key) (g g' : ChaCha) (tree : Statement) (plan : Plan) : Type 0 where
   pub request : plan.request ≡ fronts.Query (sent_text keys g tree)
   pub protected : plan.protected.items ≡ protected_of tree
   pub bytes : IsBytes (cell_for keys g (written tree))
@@ -82,16 +83,16 @@ CanAnswer opening (said.Asks tree) = (opening ≡ false) × IsStatement tree × 
 CanAnswer opening said.Refused = opening ≡ false
 
 -- the request was executed and its reply sent
-pub record Answered (keys : Keys) (awaits : Bool) (s : State) (r : Request) (g : ChaCha) (lab : Lab) (old new : Option (List ℕ)) : Type 0 where
+pub record Answered (keys : Key) (awaits : Bool) (s : State) (r : Request) (g : ChaCha) (lab : Lab) (old new : Option (List ℕ)) : Type 0 where
   pub rests : Rests keys lab (state_after keys s r) (awaits_after awaits r)
   pub drawn : g ≡ (state_after keys s r).coming
   pub sent : Grew old new (answer keys s r)
 
 -- the request was executed or not, and a front of its reply sent
-pub record Broken (keys : Keys) (s : State) (r : Request) (lab : Lab) (old new : Option (List ℕ)) : Type 0 where
+pub record Broken (keys : Key) (s : State) (r : Request) (lab : Lab) (old new : Option (List ℕ)) : Type 0 where
   pub stand : StandFor (IsStored keys) lab.rows s.rows ⊎ StandFor (IsStored keys) lab.rows (state_after keys s r).rows
   pub sent : SentFront old new (answer keys s r)
 
-abbrev pub AnswerGives : {T E : Type 0} → Keys → Bool → State → Request → Result T E → ChaCha → Lab → Option (List ℕ) → Option (List ℕ) → Type 0
+abbrev pub AnswerGives : {T E : Type 0} → Key → Bool → State → Request → Result T E → ChaCha → Lab → Option (List ℕ) → Option (List ℕ) → Type 0
 AnswerGives keys awaits s r (Ok t) g lab old new = Answered keys awaits s r g lab old new
 AnswerGives keys awaits s r (Err e) g lab old new = Broken keys s r lab old new

@@ -1,42 +1,68 @@
 -- The cells of a session: what is stored for a value, and what a cell in text form opens to.
-use Rattle.std.specs.Prelude.{ℕ, ◌≡◌, ◌≤◌, nat_eq, if◌then◌else◌, List, [], ◌∷◌, length, take, drop, Option, None}
+use Rattle.std.specs.Prelude.{ℕ, ◌≡◌, ◌+◌, ◌^◌, ◌≤◌, ◌<◌, nat_eq, if◌then◌else◌, List, [], ◌∷◌, length, take, drop, Option, Some, None}
 use Rattle.std.specs.Option.{option_and_then}
 use Rattle.std.specs.Result.{result_ok}
 use Rattle.std.specs.Cmp.Lexicographic.{pointwise}
 use Rattle.hex.specs.Hex.{decode_of, IsBytes}
-use Rattle.acra_base.specs.Trial.{trial_seal, trial_open}
+use Rattle.acra_crypto.specs.Gcm.{aes256_gcm, aes256_gcm_opened}
+use Rattle.acra_block.specs.Keys.{Key}
+use Rattle.acra_block.specs.Containers.{Sealing, Opening}
+use Rattle.acra_block.specs.Cells.{cell, opened_cell}
+use Rattle.acra_block.specs.declared.kind.CellKind.TheVariants as kinds
+use Rattle.acra_block.specs.declared.keys.KeyView.{KeyView}
+use Rattle.acra_block.specs.declared.opening.Opened.{Opened}
+use Rattle.acra_block.specs.declared.opening.Opened.TheVariants as answers
 use Rattle.plain_tables.specs.Requests.{string_limit}
-use Rattle.lab_session.specs.Containers.{Sealing, Opening, container, opened_container}
 
--- the cipher of this stage
+-- the cipher, AES-256-GCM
 abbrev pub sealing : Sealing
-sealing key nonce extra plain = trial_seal key nonce plain
+sealing key nonce extra plain = aes256_gcm key nonce extra plain
 
 abbrev pub opening : Opening
-opening key nonce extra text = trial_open key nonce text
+opening key nonce extra text = aes256_gcm_opened key nonce extra text
 
--- a session's client and its key, whose id is 1
-pub record Keys : Type 0 where
-  pub client : List ℕ
-  pub key : List ℕ
-
--- the container of a value, with these drawn bytes
-abbrev pub sealed_cell : Keys → List ℕ → List ℕ → List ℕ
-sealed_cell keys drawn plain = container sealing keys.client 1 keys.key drawn plain
+-- the sealed cell of a value, with these drawn bytes
+abbrev pub sealed_cell : Key → List ℕ → List ℕ → List ℕ
+sealed_cell key drawn plain = cell sealing kinds.Sealed key drawn plain
 
 -- a stored cell of the client, made for a value with 56 drawn bytes
-pub record IsStored (keys : Keys) (owner plain stored : List ℕ) : Type 0 where
+pub record IsStored (key : Key) (owner plain stored : List ℕ) : Type 0 where
   pub drawn : List ℕ
   pub full : length drawn ≡ 56
-  pub owned : owner ≡ keys.client
+  pub owned : owner ≡ key.owner
   pub short : length plain ≤ string_limit
-  pub made : stored ≡ sealed_cell keys drawn plain
+  pub made : stored ≡ sealed_cell key drawn plain
   pub bytes : IsBytes stored
+
+-- a key's id is at least 1, and there are ids above it
+pub record IsUsable (key : Key) : Type 0 where
+  pub least : 1 ≤ key.id
+  pub room : key.id + 1 < 2 ^ 64
+
+-- ---- opening
+
+-- the keys by which a client opens cells that its one key sealed
+abbrev pub own_view : Key → KeyView
+own_view key = record { who = key.owner; next_id = key.id + 1; keys = record { id = key.id; key = key.key } ∷ [] }
 
 -- the bytes of a cell in text form: \x and hexadecimal digits
 abbrev pub text_bytes : List ℕ → Option (List ℕ)
 text_bytes text = if pointwise nat_eq (take 2 text) (92 ∷ 120 ∷ []) then result_ok (decode_of (drop 2 text)) else None
 
+-- the value that a cell opens to
+abbrev pub value_of : Opened × List ℕ → Option (List ℕ)
+value_of (answers.Plain, plain) = Some plain
+value_of (answers.Broken, none) = None
+value_of (answers.UnknownKey id, none) = None
+value_of (answers.Foreign, none) = None
+
+abbrev pub value_in : KeyView → List ℕ → Option (List ℕ)
+value_in view bytes = value_of (opened_cell opening kinds.Sealed view bytes)
+
 -- what a cell in text form opens to
-abbrev pub opened_text : Keys → List ℕ → Option (List ℕ)
-opened_text keys text = option_and_then (opened_container opening keys.client 1 keys.key) (text_bytes text)
+abbrev pub opened_by : KeyView → List ℕ → Option (List ℕ)
+opened_by view text = option_and_then (value_in view) (text_bytes text)
+
+-- the same by the client's one key
+abbrev pub opened_text : Key → List ℕ → Option (List ℕ)
+opened_text key text = opened_by (own_view key) text

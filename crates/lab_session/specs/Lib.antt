@@ -1,4 +1,3 @@
-pub mod Containers
 pub mod Codes
 pub mod Cells
 pub mod ClientKey

@@ -9,7 +9,8 @@ use Rattle.sql_profile.specs.declared.statement.Statement.TheVariants as stateme
 use Rattle.plain_tables.specs.Requests.{Request}
 use Rattle.plain_tables.specs.Plain.{PlainCell}
 use Rattle.plain_tables.specs.Reply.{reply, rows_then}
-use Rattle.lab_session.specs.Cells.{Keys, sealed_cell}
+use Rattle.acra_block.specs.Keys.{Key}
+use Rattle.lab_session.specs.Cells.{sealed_cell}
 
 -- the string that a statement writes
 abbrev pub written_values : List Operand → Option (List ℕ)
@@ -25,7 +26,7 @@ written (statement.Select table items) = None
 written (statement.Insert table columns rows) = written_rows rows
 
 -- the cell of a written string takes the next 56 bytes
-abbrev pub cell_for : Keys → ChaCha → Option (List ℕ) → List ℕ
+abbrev pub cell_for : Key → ChaCha → Option (List ℕ) → List ℕ
 cell_for keys g None = []
 cell_for keys g (Some plain) = sealed_cell keys (drawn 56 g).0 plain
 
@@ -48,21 +49,21 @@ pub record State : Type 0 where
 abbrev pub started : ChaCha → State
 started g = record { rows = []; coming = g }
 
-abbrev pub state_after : Keys → State → Request → State
+abbrev pub state_after : Key → State → Request → State
 state_after keys s request = record {
-  rows = rows_then keys.client (cell_for keys s.coming (written_by request)) request s.rows;
+  rows = rows_then keys.owner (cell_for keys s.coming (written_by request)) request s.rows;
   coming = drawn_for s.coming (written_by request);
 }
 
-abbrev pub state_after_all : Keys → State → List Request → State
+abbrev pub state_after_all : Key → State → List Request → State
 state_after_all keys s [] = s
 state_after_all keys s (request ∷ requests) = state_after_all keys (state_after keys s request) requests
 
 -- the reply to a request of session 1
-abbrev pub answer : Keys → State → Request → List ℕ
-answer keys s request = reply keys.client 1 request s.rows
+abbrev pub answer : Key → State → Request → List ℕ
+answer keys s request = reply keys.owner 1 request s.rows
 
 -- the replies to the requests, one after the other
-abbrev pub answers : Keys → State → List Request → List ℕ
+abbrev pub answers : Key → State → List Request → List ℕ
 answers keys s [] = []
 answers keys s (request ∷ requests) = answer keys s request ++ answers keys (state_after keys s request) requests

@@ -10,7 +10,8 @@ use Rattle.table_machine.specs.Backend.{Lab, text_limit}
 use Rattle.plain_tables.specs.Requests.{Request, Phase, phase_after_all, is_opening, AreSaid, request_bytes, stream_of, message_limit}
 use Rattle.plain_tables.specs.BadMessages.{IsBad, IsCut}
 use Rattle.plain_tables.specs.Standing.{StandFor}
-use Rattle.lab_session.specs.Cells.{Keys, IsStored}
+use Rattle.acra_block.specs.Keys.{Key}
+use Rattle.lab_session.specs.Cells.{IsStored}
 use Rattle.lab_session.specs.Runs.{State, started, state_after_all, answers}
 use Rattle.lab_session.specs.declared.status.Status.{Status}
 use Rattle.lab_session.specs.declared.status.Status.TheVariants as ends
@@ -37,7 +38,7 @@ SentFront old new bytes = (part : List ℕ) × (more : List ℕ) × (part ++ mor
 -- ---- the backend between two requests
 
 -- the backend has executed all that was sent, and its tables stand for these rows
-pub record Rests (keys : Keys) (lab : Lab) (s : State) (awaits : Bool) : Type 0 where
+pub record Rests (keys : Key) (lab : Lab) (s : State) (awaits : Bool) : Type 0 where
   pub stand : StandFor (IsStored keys) lab.rows s.rows
   pub session : lab.session ≡ 1
   pub unclosed : lab.closed ≡ false
@@ -49,7 +50,7 @@ pub record Rests (keys : Keys) (lab : Lab) (s : State) (awaits : Bool) : Type 0 
 -- ---- a session so far
 
 -- these requests were answered, and some bytes have come of the next
-pub record SoFar (keys : Keys) (g0 : ChaCha) (left0 held0 left held : Option (List ℕ)) (g : ChaCha) (lab : Lab) (stream : Stream) (taken : ℕ) (requests : List Request) : Type 0 where
+pub record SoFar (keys : Key) (g0 : ChaCha) (left0 held0 left held : Option (List ℕ)) (g : ChaCha) (lab : Lab) (stream : Stream) (taken : ℕ) (requests : List Request) : Type 0 where
   pub each : AreSaid Phase.Opening requests
   pub serving : phase_after_all Phase.Opening requests ≢ Phase.Over
   pub read : Shrank left0 left (stream_of requests stream.left)
@@ -94,7 +95,7 @@ MayBegin status (request ∷ []) = may_begin status ≡ true
 MayBegin status (request ∷ more ∷ requests) = ⊥
 
 -- a session ended so: it answered these requests whole, and at most one more in part
-pub record Ran (keys : Keys) (g0 : ChaCha) (left0 left held0 held : Option (List ℕ)) (tables : List (List Cell)) (status : Status) (answered begun : List Request) (rest : List ℕ) : Type 0 where
+pub record Ran (keys : Key) (g0 : ChaCha) (left0 left held0 held : Option (List ℕ)) (tables : List (List Cell)) (status : Status) (answered begun : List Request) (rest : List ℕ) : Type 0 where
   pub each : AreSaid Phase.Opening (answered ++ begun)
   pub read : Shrank left0 left (stream_of (answered ++ begun) rest)
   pub why_begun : MayBegin status begun

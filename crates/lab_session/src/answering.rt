@@ -4,6 +4,7 @@ ghost use Rattle.sql_profile.specs.Tree.{IsStatement};
 ghost use Rattle.table_machine.specs.Replies.{ready};
 ghost use Rattle.plain_tables.specs.Reply.{reply_bytes};
 ghost use Rattle.plain_tables.specs.Refusals.{not_in_profile};
+ghost use Rattle.lab_session.specs.Cells.{IsUsable, own_view};
 ghost use Rattle.lab_session.specs.Session.{Rests};
 ghost use Rattle.lab_session.specs.Relaying.{IsIdle, Sends};
 ghost use Rattle.lab_session.specs.Runs.{State};
@@ -15,7 +16,8 @@ use crate::planning::plan_for;
 use crate::said::Said;
 use crate::send::send;
 use crate::stop::Stop;
-use acra_base::{ClientId, Sink, SureRandom};
+use acra_base::{Sink, SureRandom};
+use acra_block::{KeyView, OwnerKey};
 use pg_wire::Front;
 use sql_profile::Statement;
 use std::alloc::Global;
@@ -29,32 +31,26 @@ const NOT_IN_PROFILE: &[u8] = b"AcraServer: statement not in the profile";
 // Sends a statement on with its string sealed, and shows the reply.
 fn answer_statement<K: Sink>(
     alloc: Global,
-    client: &ClientId,
-    key: &[u8; 32],
+    key: &OwnerKey,
+    view: &KeyView,
     random: &mut SureRandom,
     backend: &mut LabBackend,
     output: &mut K,
     tree: Statement,
 ) -> Result<(), Stop>
+    requires usable { IsUsable key.now }
+    requires view { view.now ≡ own_view key.now }
     requires idle { IsIdle backend.old }
     requires can { CanAnswer backend.old.stream.opening (said_as.Asks tree) }
-    ensures gives { (s : State) (text : List ℕ) → Rests (record { client = client.now; key = key.now }) backend.old s backend.old.stream.opening → random.old ≡ s.coming
-        → AnswerGives (record { client = client.now; key = key.now }) backend.old.stream.opening s (request_of text (said_as.Asks tree)) result random.new backend.new (K.held output.old) (K.held output.new) }
+    ensures gives { (s : State) (text : List ℕ) → Rests key.now backend.old s backend.old.stream.opening → random.old ≡ s.coming
+        → AnswerGives key.now backend.old.stream.opening s (request_of text (said_as.Asks tree)) result random.new backend.new (K.held output.old) (K.held output.new) }
     ensures later { K.write_faults output.old ≤ K.write_faults output.new }
     ensures fault { IsErrOf result Stop.WriteFault → Rose (K.write_faults output.old) (K.write_faults output.new) }
     ensures no_read { IsErrOf result Stop.ReadFault → ⊥ }
 {
-    match plan_for(alloc, client, key, random, tree) {
+    match plan_for(alloc, key, random, tree) {
         Err(_) => Err(Stop::NoMemory),
-        Ok(plan) => forward(
-            alloc,
-            client,
-            key,
-            backend,
-            output,
-            &plan.request,
-            &plan.protected,
-        ),
+        Ok(plan) => forward(alloc, view, backend, output, &plan.request, &plan.protected),
     }
 }
 
@@ -74,17 +70,19 @@ fn refuse<K: Sink>(alloc: Global, output: &mut K) -> Result<(), Stop>
 /// Answers a request: has the backend execute a statement or the startup, and sends the client the reply.
 pub fn answer<K: Sink>(
     alloc: Global,
-    client: &ClientId,
-    key: &[u8; 32],
+    key: &OwnerKey,
+    view: &KeyView,
     random: &mut SureRandom,
     backend: &mut LabBackend,
     output: &mut K,
     said: Said,
 ) -> Result<(), Stop>
+    requires usable { IsUsable key.now }
+    requires view { view.now ≡ own_view key.now }
     requires idle { IsIdle backend.old }
     requires can { CanAnswer backend.old.stream.opening said }
-    ensures gives { (s : State) (text : List ℕ) → Rests (record { client = client.now; key = key.now }) backend.old s backend.old.stream.opening → random.old ≡ s.coming
-        → AnswerGives (record { client = client.now; key = key.now }) backend.old.stream.opening s (request_of text said) result random.new backend.new (K.held output.old) (K.held output.new) }
+    ensures gives { (s : State) (text : List ℕ) → Rests key.now backend.old s backend.old.stream.opening → random.old ≡ s.coming
+        → AnswerGives key.now backend.old.stream.opening s (request_of text said) result random.new backend.new (K.held output.old) (K.held output.new) }
     ensures later { K.write_faults output.old ≤ K.write_faults output.new }
     ensures fault { IsErrOf result Stop.WriteFault → Rose (K.write_faults output.old) (K.write_faults output.new) }
     ensures no_read { IsErrOf result Stop.ReadFault → ⊥ }
@@ -93,9 +91,9 @@ pub fn answer<K: Sink>(
         Said::Encrypts(_) => send(output, b"N"),
         Said::Opens(params) => {
             let request = Front::Startup { params };
-            forward(alloc, client, key, backend, output, &request, &[])
+            forward(alloc, view, backend, output, &request, &[])
         }
-        Said::Asks(tree) => answer_statement(alloc, client, key, random, backend, output, tree),
+        Said::Asks(tree) => answer_statement(alloc, key, view, random, backend, output, tree),
         Said::Refused => refuse(alloc, output),
     }
 }

@@ -3,12 +3,13 @@ ghost use Rattle.acra_base.specs.Causes.{Rose};
 ghost use Rattle.pg_wire.specs.Fronts.{IsFront, front_body};
 ghost use Rattle.table_machine.specs.Backend.{IsRequest, text_limit};
 ghost use Rattle.plain_tables.specs.Shown.{shown_message};
-ghost use Rattle.lab_session.specs.Cells.{opened_text};
+ghost use Rattle.lab_session.specs.Cells.{opened_by};
 ghost use Rattle.lab_session.specs.Relaying.{IsIdle, ForwardGives, CanSend};
 
 use crate::relay::relay;
 use crate::stop::Stop;
-use acra_base::{ClientId, Sink};
+use acra_base::Sink;
+use acra_block::KeyView;
 use pg_wire::{Front, write_front};
 use std::alloc::Global;
 use table_machine::LabBackend;
@@ -16,8 +17,7 @@ use table_machine::LabBackend;
 /// Sends a request to the backend, which executes it, and shows its reply to the client.
 pub fn forward<K: Sink>(
     alloc: Global,
-    client: &ClientId,
-    key: &[u8; 32],
+    view: &KeyView,
     backend: &mut LabBackend,
     output: &mut K,
     request: &Front,
@@ -25,7 +25,7 @@ pub fn forward<K: Sink>(
 ) -> Result<(), Stop>
     requires idle { IsIdle backend.old }
     requires sendable { CanSend backend.old.stream.opening request.now }
-    ensures sent { ForwardGives (shown_message (opened_text (record { client = client.now; key = key.now })) protected.now) backend.old request.now result backend.new
+    ensures sent { ForwardGives (shown_message (opened_by view.now) protected.now) backend.old request.now result backend.new
         (K.held output.old) (K.held output.new) }
     ensures later { K.write_faults output.old ≤ K.write_faults output.new }
     ensures fault { IsErrOf result Stop.WriteFault → Rose (K.write_faults output.old) (K.write_faults output.new) }
@@ -37,7 +37,7 @@ pub fn forward<K: Sink>(
     let mut reply = Vec::new(alloc);
     match backend.execute(&mut reply) {
         Err(_) => Err(Stop::NoMemory),
-        Ok(true) => relay(alloc, client, key, protected, &reply, output),
+        Ok(true) => relay(alloc, view, protected, &reply, output),
         Ok(false) => unreachable!(),
     }
 }

@@ -3,7 +3,6 @@
 #![tactic(auto)]
 
 mod answering;
-mod container;
 mod forward;
 mod key;
 mod opening;
@@ -22,7 +21,5 @@ pub use key::client_key;
 pub use session::first_session;
 pub use status::Status;
 
-#[cfg(test)]
-mod container_tests;
 #[cfg(test)]
 mod stored_tests;

@@ -1,13 +1,11 @@
 ghost use Rattle.std.specs.Prelude.{◌≡◌, IfOk};
-ghost use Rattle.lab_session.specs.Cells.{text_bytes, opened_text};
+ghost use Rattle.lab_session.specs.Cells.{text_bytes, value_in, opened_by};
 
-use crate::container::open_container;
-use acra_base::{Bytes, ClientId, NoMemory, TrialAead};
+use acra_base::{Bytes, NoMemory};
+use acra_block::{CellKind, KeyView, Opened, open_cell};
+use acra_crypto::Aes256Gcm;
 use hex::FromHexError;
 use std::alloc::Global;
-
-/// The key's id of a session's client.
-pub const KEY_ID: u64 = 1;
 
 // The bytes of a cell in text form: `\x` and hexadecimal digits.
 fn text_bytes(alloc: Global, text: &[u8]) -> Result<Option<Bytes>, NoMemory>
@@ -27,24 +25,23 @@ fn text_bytes(alloc: Global, text: &[u8]) -> Result<Option<Bytes>, NoMemory>
     }
 }
 
-/// What a cell in text form opens to under the client's key, or nothing.
-pub fn open_text(
-    alloc: Global,
-    client: &ClientId,
-    key: &[u8; 32],
-    text: &[u8],
-) -> Result<Option<Bytes>, NoMemory>
-    ensures { IfOk result (λ found. found ≡ opened_text (record { client = client.now; key = key.now }) text.now) }
+// The value of a sealed cell.
+fn cell_value(alloc: Global, view: &KeyView, cell: &[u8]) -> Result<Option<Bytes>, NoMemory>
+    ensures { IfOk result (λ found. found ≡ value_in view.now cell.now) }
+{
+    let mut plain = Vec::new(alloc);
+    match open_cell(&Aes256Gcm, CellKind::Sealed, view, cell, &mut plain)? {
+        Opened::Plain => Ok(Some(Bytes::from_vec(plain))),
+        Opened::Broken | Opened::UnknownKey(_) | Opened::Foreign => Ok(None),
+    }
+}
+
+/// What a cell in text form opens to by the client's keys, or nothing.
+pub fn open_text(alloc: Global, view: &KeyView, text: &[u8]) -> Result<Option<Bytes>, NoMemory>
+    ensures { IfOk result (λ found. found ≡ opened_by view.now text.now) }
 {
     match text_bytes(alloc, text)? {
-        Some(cell) => open_container(
-            alloc,
-            &TrialAead,
-            client.text(),
-            KEY_ID,
-            key,
-            cell.as_slice(),
-        ),
+        Some(cell) => cell_value(alloc, view, cell.as_slice()),
         None => Ok(None),
     }
 }

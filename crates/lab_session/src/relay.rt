@@ -5,13 +5,14 @@ ghost use Rattle.pg_wire.specs.Backs.{back_frame};
 ghost use Rattle.table_machine.specs.Replies.{IsWritable};
 ghost use Rattle.plain_tables.specs.Reply.{reply_bytes};
 ghost use Rattle.plain_tables.specs.Shown.{shown_message};
-ghost use Rattle.lab_session.specs.Cells.{opened_text};
+ghost use Rattle.lab_session.specs.Cells.{opened_by};
 ghost use Rattle.lab_session.specs.Relaying.{IsReply, Holds, NextIs, Sends};
 
 use crate::send::send;
 use crate::showing::show;
 use crate::stop::Stop;
-use acra_base::{ClientId, NoMemory, Sink};
+use acra_base::{NoMemory, Sink};
+use acra_block::KeyView;
 use pg_wire::{Back, Framer, NextFault, ReadBody, Side, read_back, write_back};
 use std::alloc::Global;
 
@@ -38,20 +39,19 @@ fn next_message(alloc: Global, reply: &mut Framer) -> Result<Option<Back>, NoMem
 // Shows a message and writes it to the client.
 fn send_shown<K: Sink>(
     alloc: Global,
-    client: &ClientId,
-    key: &[u8; 32],
+    view: &KeyView,
     protected: &[bool],
     message: Back,
     output: &mut K,
 ) -> Result<(), Stop>
     requires { IsWritable message }
     ensures sent { Sends (K.held output.old) (K.held output.new) result
-        (back_frame (shown_message (opened_text (record { client = client.now; key = key.now })) protected.now message)) }
+        (back_frame (shown_message (opened_by view.now) protected.now message)) }
     ensures later { K.write_faults output.old ≤ K.write_faults output.new }
     ensures fault { IsErrOf result Stop.WriteFault → Rose (K.write_faults output.old) (K.write_faults output.new) }
     ensures no_read { IsErrOf result Stop.ReadFault → ⊥ }
 {
-    let shown = show(alloc, client, key, protected, message)?;
+    let shown = show(alloc, view, protected, message)?;
     let mut frame = Vec::new(alloc);
     write_back(&shown, &mut frame)?;
     send(output, &frame)
@@ -60,15 +60,14 @@ fn send_shown<K: Sink>(
 /// Shows a reply of the backend to the client, each message as soon as it is read.
 pub fn relay<K: Sink>(
     alloc: Global,
-    client: &ClientId,
-    key: &[u8; 32],
+    view: &KeyView,
     protected: &[bool],
     reply: &[u8],
     output: &mut K,
 ) -> Result<(), Stop>
     requires { (messages : List Message) × IsReply reply.now messages }
     ensures sent { (messages : List Message) → IsReply reply.now messages → Sends (K.held output.old) (K.held output.new) result
-        (reply_bytes (map (shown_message (opened_text (record { client = client.now; key = key.now })) protected.now) messages)) }
+        (reply_bytes (map (shown_message (opened_by view.now) protected.now) messages)) }
     ensures later { K.write_faults output.old ≤ K.write_faults output.new }
     ensures fault { IsErrOf result Stop.WriteFault → Rose (K.write_faults output.old) (K.write_faults output.new) }
     ensures no_read { IsErrOf result Stop.ReadFault → ⊥ }
@@ -80,7 +79,7 @@ pub fn relay<K: Sink>(
             Err(_) => return Err(Stop::NoMemory),
             Ok(None) => return Ok(()),
             Ok(Some(message)) => {
-                match send_shown(alloc, client, key, protected, message, output) {
+                match send_shown(alloc, view, protected, message, output) {
                     Ok(()) => {}
                     Err(stop) => return Err(stop),
                 }

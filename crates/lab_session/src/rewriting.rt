@@ -1,12 +1,13 @@
-ghost use Rattle.std.specs.Prelude.{◌≡◌, map, IfOk, OnOk, option_map};
+ghost use Rattle.std.specs.Prelude.{◌≡◌, map, IfOk, OnOk, option_map, true};
 ghost use Rattle.plain_tables.specs.Rewritten.{rewritten_value, rewritten, protected_of};
 ghost use Rattle.hex.specs.Hex.{IsBytes};
+ghost use Rattle.plain_tables.specs.Requests.{has_short_strings};
 ghost use Rattle.table_machine.specs.Stored.{bytea_text};
 ghost use Rattle.lab_session.specs.Runs.{written, written_rows, written_values, cell_for, drawn_for};
 
-use crate::container::seal_container;
-use crate::opening::KEY_ID;
-use acra_base::{Bytes, ClientId, NoMemory, Sequence, SureRandom, TrialAead};
+use acra_base::{Bytes, NoMemory, Sequence, SureRandom};
+use acra_block::{CellKind, OwnerKey, seal_cell};
+use acra_crypto::Aes256Gcm;
 use sql_profile::{Items, Operand, Statement};
 use std::alloc::Global;
 
@@ -124,12 +125,12 @@ fn rewritten(alloc: Global, tree: Statement, cell: &[u8]) -> Result<Statement, N
 // The cell of a written string, with the next 56 bytes that are drawn; none for no string.
 fn cell_for(
     alloc: Global,
-    client: &ClientId,
-    key: &[u8; 32],
+    key: &OwnerKey,
     random: &mut SureRandom,
     tree: &Statement,
 ) -> Result<Vec<u8>, NoMemory>
-    ensures cell { IfOk result (λ cell. cell.items ≡ cell_for (record { client = client.now; key = key.now }) random.old (written tree.now)) }
+    requires { has_short_strings tree.now ≡ true }
+    ensures cell { IfOk result (λ cell. cell.items ≡ cell_for key.now random.old (written tree.now)) }
     ensures random { OnOk result (random.new ≡ drawn_for random.old (written tree.now)) }
 {
     match written(tree) {
@@ -137,7 +138,9 @@ fn cell_for(
         Some(plain) => {
             let mut drawn = [0; 56];
             random.fill(&mut drawn);
-            seal_container(alloc, &TrialAead, client.text(), KEY_ID, key, &drawn, plain)
+            let mut cell = Vec::new(alloc);
+            seal_cell(&Aes256Gcm, CellKind::Sealed, key, plain, &drawn, &mut cell)?;
+            Ok(cell)
         }
     }
 }
@@ -145,15 +148,15 @@ fn cell_for(
 /// The statement that is sent on, with a written string sealed.
 pub fn sealed_statement(
     alloc: Global,
-    client: &ClientId,
-    key: &[u8; 32],
+    key: &OwnerKey,
     random: &mut SureRandom,
     tree: Statement,
 ) -> Result<Statement, NoMemory>
-    ensures sent { IfOk result (λ sent. sent ≡ rewritten (cell_for (record { client = client.now; key = key.now }) random.old (written tree)) tree) }
+    requires { has_short_strings tree ≡ true }
+    ensures sent { IfOk result (λ sent. sent ≡ rewritten (cell_for key.now random.old (written tree)) tree) }
     ensures random { OnOk result (random.new ≡ drawn_for random.old (written tree)) }
-    ensures bytes { OnOk result (IsBytes (cell_for (record { client = client.now; key = key.now }) random.old (written tree))) }
+    ensures bytes { OnOk result (IsBytes (cell_for key.now random.old (written tree))) }
 {
-    let cell = cell_for(alloc, client, key, random, &tree)?;
+    let cell = cell_for(alloc, key, random, &tree)?;
     rewritten(alloc, tree, &cell)
 }

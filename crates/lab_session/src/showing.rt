@@ -1,9 +1,10 @@
 ghost use Rattle.std.specs.Prelude.{◌≡◌, IfOk, false, slice_index_or, Some, if◌then◌else◌};
 ghost use Rattle.plain_tables.specs.Shown.{as_text, described, shown_cell, shown_cells, shown_message};
-ghost use Rattle.lab_session.specs.Cells.{opened_text};
+ghost use Rattle.lab_session.specs.Cells.{opened_by};
 
 use crate::opening::open_text;
-use acra_base::{Bytes, ClientId, NoMemory, Sequence};
+use acra_base::{Bytes, NoMemory, Sequence};
+use acra_block::KeyView;
 use pg_wire::{Back, Field};
 use std::alloc::Global;
 
@@ -64,15 +65,14 @@ fn copied(alloc: Global, cell: &Option<Bytes>) -> Result<Option<Bytes>, NoMemory
 // A protected cell as it is shown: opened, or as it is where it doesn't open.
 fn opened_cell(
     alloc: Global,
-    client: &ClientId,
-    key: &[u8; 32],
+    view: &KeyView,
     cell: &Option<Bytes>,
 ) -> Result<Option<Bytes>, NoMemory>
-    ensures { IfOk result (λ shown. shown ≡ shown_cell (opened_text (record { client = client.now; key = key.now })) cell.now) }
+    ensures { IfOk result (λ shown. shown ≡ shown_cell (opened_by view.now) cell.now) }
 {
     match cell {
         None => Ok(None),
-        Some(text) => match open_text(alloc, client, key, text.as_slice())? {
+        Some(text) => match open_text(alloc, view, text.as_slice())? {
             Some(plain) => Ok(Some(plain)),
             None => Ok(Some(Bytes::copied(alloc, text.as_slice())?)),
         },
@@ -81,17 +81,16 @@ fn opened_cell(
 
 fn opened_cells(
     alloc: Global,
-    client: &ClientId,
-    key: &[u8; 32],
+    view: &KeyView,
     protected: &[bool],
     cells: &[Option<Bytes>],
 ) -> Result<Sequence<Option<Bytes>>, NoMemory>
-    ensures { IfOk result (λ shown. shown ≡ shown_cells (opened_text (record { client = client.now; key = key.now })) protected.now cells.now) }
+    ensures { IfOk result (λ shown. shown ≡ shown_cells (opened_by view.now) protected.now cells.now) }
 {
     let mut shown = Sequence::new(alloc);
     'cells: for place in 0..cells.len() {
         let cell = if is_protected(protected, place) {
-            opened_cell(alloc, client, key, &cells[place])?
+            opened_cell(alloc, view, &cells[place])?
         } else {
             copied(alloc, &cells[place])?
         };
@@ -104,19 +103,17 @@ fn opened_cells(
 /// text, and their cells are opened.
 pub fn show(
     alloc: Global,
-    client: &ClientId,
-    key: &[u8; 32],
+    view: &KeyView,
     protected: &[bool],
     message: Back,
 ) -> Result<Back, NoMemory>
-    ensures { IfOk result (λ shown. shown ≡ shown_message (opened_text (record { client = client.now; key = key.now })) protected.now message) }
+    ensures { IfOk result (λ shown. shown ≡ shown_message (opened_by view.now) protected.now message) }
 {
     match message {
         Back::Row(fields) => Ok(Back::Row(described_fields(alloc, protected, fields.as_slice())?)),
         Back::Cells(cells) => Ok(Back::Cells(opened_cells(
             alloc,
-            client,
-            key,
+            view,
             protected,
             cells.as_slice(),
         )?)),

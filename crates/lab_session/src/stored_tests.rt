@@ -26,22 +26,23 @@ const DESCRIBED: &[u8] = b"T\x00\x00\x00\x1d\x00\x01body\x00\x00\x00\x40\x00\x00
 const ROW: &[u8] = b"D\x00\x00\x00\xf4\x00\x01\x00\x00\x00\xea\\x";
 
 /// The containers of two values `it's` for the client app and the seed 1: the header; the nonce of the
-/// data key's seal, and the seal; the nonce of the value's seal, and the seal. The client's key is
-/// bytes 96 to 128 of OpenSSL's key stream for the key 1, 0, 0, .. . The first container takes bytes
-/// 160 to 216 of it: 32 of data key, 12 of nonce, 12 of nonce; the second one bytes 216 to 272.
+/// data key's seal, the sealed key and its tag; the nonce of the value's seal, the sealed value and its
+/// tag. The client's key is bytes 96 to 128 of OpenSSL's ChaCha20 key stream for the key 1, 0, 0, .. .
+/// The first container takes bytes 160 to 216 of it: 32 of data key, 12 of nonce, 12 of nonce; the
+/// second one bytes 216 to 272. The seals are AES-256-GCM by Python's cryptography 48.0.
 const FIRST: &[u8] = b"222222226800000000000000000100000000000000003c00\
     a3e2edc43e1057b25345acd3\
-    488c00707d8dac7308937d2a023551028f6ec69fcb244d547444569163f6b536\
-    54545454545454545454545454545454\
+    a238cb855968bdd8377f805b942a3e2fcfc23bef21bf0ed75c87ea241d7016c3\
+    2b39d1a27a3027fd297c6b9f932ccde9\
     350a0029dd74f39cd4f2f8a9\
-    941873b254545454545454545454545454545454";
+    5189d1d8da825748cc4db2a9c3b2cf40df164be2";
 
 const SECOND: &[u8] = b"222222226800000000000000000100000000000000003c00\
     e026b65c5da3a3b02cb33448\
-    f25545ef9ddc405a62a454dd29449cf03eaf6dbdcbf6307e3a0104c96824f9e2\
-    54545454545454545454545454545454\
+    2467350532eeb83cfe07178d0e978b5cf94e2c5704f2b0ae3d92fcb0fb7de5bd\
+    c0f9bc25d22230351a767098854eb0a7\
     7f6949e8d2edfbc555c0324f\
-    2766247454545454545454545454545454545454";
+    2a35c4d128cdc2f53c1de279b4a1d6c07b9d6e5e";
 
 const TAG: &[u8] = b"C\x00\x00\x00\x0dSELECT 2\x00Z\x00\x00\x00\x05I";
 
@@ -62,7 +63,7 @@ fn session(
     requires { backend.old ≡ new_lab 1 [] }
 {
     let who = ClientId::read(b"app")?;
-    let (key, mut random) = client_key(1);
+    let (key, mut random) = client_key(who, 1);
     let mut input = SureLink::new(alloc, input);
     let mut output = SureLink::new(alloc, Vec::new(alloc));
     let end = first_session(

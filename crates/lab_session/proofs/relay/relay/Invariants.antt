@@ -3,7 +3,7 @@ use Rattle.pg_wire.specs.declared.back.Back.{Back}
 use Rattle.acra_base.specs.Known.{Grew}
 use Rattle.plain_tables.specs.Reply.{reply_bytes}
 use Rattle.plain_tables.specs.Shown.{shown_message}
-use Rattle.lab_session.specs.Cells.{opened_text}
+use Rattle.lab_session.specs.Cells.{opened_by}
 use Rattle.lab_session.specs.Relaying.{IsReply, Holds}
 use Rattle.lab_session.proofs.Relayed.{Shown}
 use Rattle.lab_session.proofs.relay.relay.Given as goal
@@ -11,7 +11,7 @@ use Rattle.lab_session.proofs.relay.relay.Given as goal
 -- the messages that were shown, and those that are left
 abbrev pub invariant-messages : goal.invariant-messages
 invariant-messages g l = record {
-  shown : (messages : List Back) → IsReply l.fn.reply messages → Shown (shown_message (opened_text (record { client = l.client; key = l.key })) l.protected) l.framer messages (g.K.Sink.held l.fn.output) (g.K.Sink.held l.output);
+  shown : (messages : List Back) → IsReply l.fn.reply messages → Shown (shown_message (opened_by l.view) l.protected) l.framer messages (g.K.Sink.held l.fn.output) (g.K.Sink.held l.output);
   later : g.K.Sink.write_faults l.fn.output ≤ g.K.Sink.write_faults l.output;
 }
 

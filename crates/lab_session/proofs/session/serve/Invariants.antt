@@ -1,12 +1,12 @@
 use Rattle.std.proofs.Common.{◌≡◌, ℕ, List, ◌+◌, ◌-◌, ◌*◌, ◌^◌, ◌≤◌, length}
 use Rattle.plain_tables.specs.Requests.{Request}
 use Rattle.lab_session.specs.Session.{SoFar}
-use Rattle.lab_session.proofs.session.first_session.Given as goal
+use Rattle.lab_session.proofs.session.serve.Given as goal
 
 -- some requests were answered, and no count of faults fell
 abbrev pub invariant-session : goal.invariant-session
 invariant-session g l = record {
-  so_far : (requests : List Request) × SoFar (record { client = l.who; key = l.key }) l.fn.random (g.S.Source.left l.fn.input) (g.K.Sink.held l.fn.output) (g.S.Source.left l.input) (g.K.Sink.held l.output) l.random l.backend l.framer l.taken requests;
+  so_far : (requests : List Request) × SoFar l.key l.fn.random (g.S.Source.left l.fn.input) (g.K.Sink.held l.fn.output) (g.S.Source.left l.input) (g.K.Sink.held l.output) l.random l.backend l.framer l.taken requests;
   within : l.taken ≤ 2 ^ 48;
   reads : g.S.Source.read_faults l.fn.input ≤ g.S.Source.read_faults l.input;
   writes : g.K.Sink.write_faults l.fn.output ≤ g.K.Sink.write_faults l.output;

@@ -1,8 +1,8 @@
 -- A cell that was sealed opens to its value.
-use Rattle.std.proofs.Common.{◌≡◌, ℕ, zero, suc, ◌+◌, ◌-◌, ◌^◌, ◌≤◌, ◌<◌, nat_le, nat_lt, ◌==◌, Bool, true, false, ◌&&◌, List, [], ◌∷◌, ◌++◌, length, take, drop, get_or, Option, Some, None, refl, sym, ap, subst, ◌∙◌, append_assoc, append-nil, arith, if◌then◌else◌}
+use Rattle.std.proofs.Common.{◌≡◌, ℕ, ◌+◌, ◌-◌, ◌^◌, ◌≤◌, ◌<◌, nat_le, ◌==◌, Bool, true, false, List, [], ◌∷◌, ◌++◌, length, take, drop, get_or, Option, Some, refl, sym, ap, ◌∙◌, append-nil, arith, if◌then◌else◌}
 use Rattle.std.specs.Str.{IsUtf8, chars, encode_utf8_all}
 use Rattle.std.specs.Option.{option_and_then}
-use Rattle.std.specs.Int.{w32, w64, to_le_bytes, from_le_bytes}
+use Rattle.std.specs.Int.{w32, from_le_bytes}
 use Rattle.std.proofs.lemmas.Bool.{le-leb, lt-ltb}
 use Rattle.std.proofs.lemmas.List.{take_at, drop_at, length-append, drop-drop, take-append-drop}
 use Rattle.std.proofs.lemmas.Nat.{from_le_bytes-to_le_bytes_4}
@@ -10,17 +10,14 @@ use Rattle.std.proofs.lemmas.Str.{encodes-append, encodes-chars}
 use Rattle.sha2.specs.Sha256.{sha256}
 use Rattle.sha2.proofs.Facts256.{length-sha256}
 use Rattle.acra_crypto.specs.Hmac.{inner_key, outer_key, hmac_sha256}
-use Rattle.acra_block.specs.declared.container.Container.{Container}
 use Rattle.acra_block.specs.declared.kind.CellKind.{CellKind}
 use Rattle.acra_block.specs.declared.kind.CellKind.TheVariants as kinds
 use Rattle.acra_block.specs.declared.keys.KeyView.{KeyView}
-use Rattle.acra_block.specs.declared.opening.Opened.{Opened}
 use Rattle.acra_block.specs.declared.opening.Opened.TheVariants as answers
 use Rattle.acra_block.specs.Keys.{Key, key_of}
-use Rattle.acra_block.specs.Containers.{Sealing, Opening, header, container, container_of, opened_container}
-use Rattle.acra_block.specs.Cells.{cut_list, cut, masked_head, IsCuttable, blind_index, cell, Parts, masked_parts, of_side, cell_parts, joined, rest_opened, key_found, container_found, parts_found, opened_cell}
+use Rattle.acra_block.specs.Containers.{Sealing, Opening, container, container_of, opened_container}
+use Rattle.acra_block.specs.Cells.{cut_list, cut, masked_head, IsCuttable, cell, Parts, masked_parts, of_side, cell_parts, joined, rest_opened, key_found, container_found, parts_found, opened_cell}
 use Rattle.acra_block.proofs.Formed.{is_form}
-use Rattle.acra_block.proofs.Cutting.{two_parts}
 use Rattle.acra_block.proofs.Spelled.{sealed_parts, container_opens}
 
 -- ---- what was cut

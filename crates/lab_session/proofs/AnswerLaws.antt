@@ -1,6 +1,5 @@
 -- What is shown of the backend's reply is the reply of the plaintext tables.
-use Rattle.std.proofs.Common.{◌≡◌, ℕ, ◌+◌, ◌*◌, ◌^◌, ◌≤◌, ◌<◌, ◌⊎◌, inl, inr, ◌&&◌, Bool, true, false, List, [], ◌∷◌, ◌++◌, length, map, codes, Option, Some, None, Result, Ok, Err, refl, sym, ap, subst, ◌∙◌, arith, lit<}
-use Rattle.std.specs.List.{AllByRecursion}
+use Rattle.std.proofs.Common.{◌≡◌, ℕ, ◌^◌, ◌≤◌, inl, inr, ◌&&◌, Bool, true, false, List, [], ◌∷◌, ◌++◌, length, map, codes, Option, Some, Result, Ok, Err, refl, sym, ap, subst, ◌∙◌, arith}
 use Rattle.std.specs.Result.{result_ok}
 use Rattle.std.proofs.lemmas.List.{length-append}
 use Rattle.rand_chacha.specs.ChaCha.{ChaCha}
@@ -15,22 +14,20 @@ use Rattle.pg_wire.specs.declared.back.Back.{Back}
 use Rattle.pg_wire.specs.declared.frame.Side.TheVariants as side
 use Rattle.pg_wire.specs.Backs.{back_frame}
 use Rattle.pg_wire.specs.Frames.{IsFrame, asks_encryption}
-use Rattle.pg_wire.specs.Fronts.{IsText, IsFront, str, front_kind, front_body}
+use Rattle.pg_wire.specs.Fronts.{IsFront, front_body}
 use Rattle.sql_profile.specs.declared.statement.Statement.{Statement}
 use Rattle.sql_profile.specs.Tree.{IsStatement}
-use Rattle.sql_profile.specs.Canonical.{canon}
 use Rattle.sql_profile.proofs.Printed.{canon_spells}
 use Rattle.table_machine.specs.declared.cell.Cell.{Cell}
 use Rattle.table_machine.specs.Stored.{bytea_of, bytea_text}
 use Rattle.table_machine.specs.Replies.{IsWritable, messages_of, startup_messages, ready}
 use Rattle.table_machine.proofs.Texts.{IsText-from_test}
 use Rattle.table_machine.proofs.Told.{error-writable}
-use Rattle.table_machine.specs.Backend.{Lab, IsRequest, Answers, Replies, executed, rows_executed, text_limit}
+use Rattle.table_machine.specs.Backend.{Lab, Answers, executed, rows_executed}
 use Rattle.plain_tables.specs.declared.encryption.Encryption.{Encryption}
 use Rattle.plain_tables.specs.Refusals.{not_in_profile}
-use Rattle.plain_tables.specs.Requests.{Request, has_short_strings, string_limit, message_limit}
-use Rattle.plain_tables.specs.Plain.{PlainCell}
-use Rattle.plain_tables.specs.Reply.{reply, reply_bytes}
+use Rattle.plain_tables.specs.Requests.{Request, has_short_strings, message_limit}
+use Rattle.plain_tables.specs.Reply.{reply_bytes}
 use Rattle.plain_tables.specs.Rewritten.{rewritten, protected_of}
 use Rattle.plain_tables.specs.Standing.{stored_rows, StandFor}
 use Rattle.plain_tables.specs.Shown.{shown_message}
@@ -40,8 +37,8 @@ use Rattle.acra_block.specs.Keys.{Key}
 use Rattle.lab_session.specs.Cells.{IsUsable, IsStored, opened_text}
 use Rattle.lab_session.specs.Runs.{State, written, cell_for, drawn_for, state_after, answer}
 use Rattle.lab_session.specs.Session.{SentFront, Rests}
-use Rattle.lab_session.specs.Relaying.{IsIdle, CanSend, Forwards, Breaks, ForwardGives, Sends}
-use Rattle.lab_session.specs.Answering.{sent_text, IsPlan, request_of, awaits_after, CanAnswer, Answered, Broken, AnswerGives}
+use Rattle.lab_session.specs.Relaying.{IsIdle, CanSend, ForwardGives, Sends}
+use Rattle.lab_session.specs.Answering.{sent_text, IsPlan, request_of, awaits_after, CanAnswer, AnswerGives}
 use Rattle.lab_session.specs.declared.said.Said.{Said}
 use Rattle.lab_session.specs.declared.said.Said.TheVariants as said
 use Rattle.lab_session.specs.declared.plan.Plan.{Plan}

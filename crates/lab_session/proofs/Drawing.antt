@@ -1,5 +1,5 @@
 -- How many bytes are drawn.
-use Rattle.std.proofs.Common.{◌≡◌, ℕ, ◌+◌, ◌*◌, zero, suc, List, length, ap, ◌∙◌, arith, refl}
+use Rattle.std.proofs.Common.{◌≡◌, ℕ, ◌*◌, zero, suc, length, ◌∙◌, arith, refl}
 use Rattle.std.specs.Int.{w32, to_le_bytes}
 use Rattle.std.proofs.lemmas.List.{length-append, length-take}
 use Rattle.rand_core.specs.Steps.{word_bytes}

@@ -1,24 +1,22 @@
 -- The backend executes the request that it is sent, and no other.
-use Rattle.std.proofs.Common.{◌≡◌, ◌≢◌, ℕ, ◌+◌, ◌^◌, ◌≤◌, ◌<◌, ◌⊎◌, inl, inr, ◌&&◌, Bool, true, false, List, [], ◌∷◌, ◌++◌, length, map, Option, Some, None, Result, Ok, Err, refl, sym, ap, subst, ◌∙◌, append_assoc, arith}
-use Rattle.std.specs.List.{flat_map, AllByRecursion}
+use Rattle.std.proofs.Common.{◌≡◌, ℕ, ◌⊎◌, inl, inr, ◌&&◌, Bool, true, false, List, [], ◌++◌, map, Option, Result, Ok, Err, sym, ap, subst, ◌∙◌}
+use Rattle.std.specs.List.{flat_map}
 use Rattle.std.proofs.lemmas.List.{append-nil}
 use Rattle.acra_base.specs.Known.{Grew}
 use Rattle.acra_base.specs.Grows.{grew_nothing}
 use Rattle.pg_wire.specs.declared.front.Front.{Front}
 use Rattle.pg_wire.specs.declared.back.Back.{Back}
-use Rattle.pg_wire.specs.declared.frame.Side.{Side}
 use Rattle.pg_wire.specs.declared.frame.Side.TheVariants as side
-use Rattle.pg_wire.specs.Frames.{frame_bytes, IsFrame, asks_encryption}
-use Rattle.pg_wire.specs.Streams.{Stream, behind, fed}
-use Rattle.pg_wire.specs.Fronts.{IsFront, front_kind, front_body, front_frame}
+use Rattle.pg_wire.specs.Frames.{IsFrame, asks_encryption}
+use Rattle.pg_wire.specs.Streams.{Stream, fed}
+use Rattle.pg_wire.specs.Fronts.{front_kind, front_body, front_frame}
 use Rattle.pg_wire.specs.Backs.{back_frame}
 use Rattle.pg_wire.proofs.FrameLaws.{one_frame}
 use Rattle.pg_wire.proofs.OneMessage.{one_front}
 use Rattle.table_machine.specs.declared.cell.Cell.{Cell}
 use Rattle.table_machine.specs.Backend.{Lab, IsRequest, StandsFirst, Replies, Executes, Idles, Fails, ExecuteGives, text_limit}
 use Rattle.plain_tables.specs.Reply.{reply_bytes}
-use Rattle.lab_session.specs.Session.{SentFront}
-use Rattle.lab_session.specs.Relaying.{IsReply, Sends, IsIdle, CanSend, Forwards, Breaks, ForwardGives}
+use Rattle.lab_session.specs.Relaying.{IsReply, Sends, IsIdle, CanSend, Breaks, ForwardGives}
 use Rattle.lab_session.proofs.Relayed.{nothing_sent}
 
 -- the backend that was idle, and was fed this request

@@ -1,7 +1,7 @@
 -- After a statement the stored tables still stand for the plaintext tables, each cell with its meaning.
-use Rattle.std.proofs.Common.{◌≡◌, ℕ, ℤ, pos, ◌+◌, ◌≤◌, ◌^◌, nat_le, Bool, true, false, ◌&&◌, List, [], ◌∷◌, ◌++◌, length, map, Option, Some, None, refl, sym, ap, subst, ◌∙◌, arith}
+use Rattle.std.proofs.Common.{◌≡◌, ℕ, ◌+◌, ◌≤◌, nat_le, true, ◌&&◌, List, [], ◌∷◌, ◌++◌, length, Some, refl, sym, ap, subst, arith}
 use Rattle.std.specs.List.{AllByRecursion, list_all}
-use Rattle.std.specs.Cmp.{first_so, second_so}
+use Rattle.std.specs.Cmp.{first_so}
 use Rattle.std.proofs.lemmas.Bool.{leb-true, and_parts}
 use Rattle.rand_chacha.specs.ChaCha.{ChaCha}
 use Rattle.hex.specs.Hex.{IsBytes}
@@ -12,13 +12,13 @@ use Rattle.sql_profile.specs.declared.statement.Items.TheVariants as select
 use Rattle.sql_profile.specs.declared.statement.Statement.{Statement}
 use Rattle.sql_profile.specs.declared.statement.Statement.TheVariants as statement
 use Rattle.sql_profile.specs.Tree.{IsStatement, AreValues}
-use Rattle.table_machine.specs.Machine.{Action, rows_after}
+use Rattle.table_machine.specs.Machine.{rows_after}
 use Rattle.plain_tables.specs.Requests.{string_limit, is_short_value, has_short_strings}
 use Rattle.plain_tables.specs.Plain.{PlainCell, plain_row, plain_action}
 use Rattle.plain_tables.specs.Standing.{IsMeant}
 use Rattle.acra_block.specs.Keys.{Key}
 use Rattle.lab_session.specs.Cells.{sealed_cell, IsStored}
-use Rattle.lab_session.specs.Runs.{written_values, written_rows, written, cell_for}
+use Rattle.lab_session.specs.Runs.{written_values, written, cell_for}
 use Rattle.lab_session.proofs.Drawing.{drawn_length}
 use Rattle.lab_session.proofs.Opened.{sealed_length}
 

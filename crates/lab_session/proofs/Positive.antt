@@ -1,19 +1,17 @@
 -- The text that is sent to the backend holds no zero byte.
-use Rattle.std.proofs.Common.{◌≡◌, ◌⊎◌, inl, inr, ℕ, ℤ, pos, ◌+◌, ◌<◌, ◌==◌, zero, suc, Bool, true, false, List, [], ◌∷◌, ◌++◌, length, map, codes, Option, Some, None, refl, sym, ap, subst, ◌∙◌, arith, if◌then◌else◌, lit<}
-use Rattle.std.specs.List.{All}
-use Rattle.std.specs.List.{AllByRecursion, AllPass}
+use Rattle.std.proofs.Common.{◌≡◌, inl, inr, ℕ, ◌<◌, ◌==◌, zero, suc, Bool, true, false, List, [], ◌∷◌, ◌++◌, map, codes, Option, Some, None, refl, sym, subst, arith, if◌then◌else◌, lit<}
+use Rattle.std.specs.List.{AllByRecursion}
 use Rattle.std.specs.Fmt.{decimal}
-use Rattle.std.proofs.lemmas.List.Elements.{All-append, All-cons, All-nil, recursion_from_All, All-from_recursion}
+use Rattle.std.proofs.lemmas.List.Elements.{All-append, All-nil, recursion_from_All, All-from_recursion}
 use Rattle.hex.specs.Hex.{encode_lower, is_hex_digit, IsBytes}
 use Rattle.hex.proofs.HexLemmas.{decode_of-ok, decode_of-encode_lower}
 use Rattle.pg_wire.specs.Fronts.{IsText}
 use Rattle.sql_profile.specs.declared.statement.Operand.{Operand}
-use Rattle.sql_profile.specs.declared.statement.Operand.TheVariants as operand
 use Rattle.sql_profile.specs.declared.statement.Item.{Item}
 use Rattle.sql_profile.specs.declared.statement.Items.TheVariants as select
 use Rattle.sql_profile.specs.declared.statement.Statement.{Statement}
 use Rattle.sql_profile.specs.declared.statement.Statement.TheVariants as statement
-use Rattle.sql_profile.specs.Tree.{notes, id, body, IsColumn, IsItem, AreItems, AreValues, AreColumns, IsStatement}
+use Rattle.sql_profile.specs.Tree.{notes, id, body, IsColumn, AreItems, AreValues, AreColumns, IsStatement}
 use Rattle.sql_profile.specs.Tokens.{doubled}
 use Rattle.sql_profile.specs.Canonical.{canon, joined, value_text, parenthesized, quoted, list_text}
 use Rattle.table_machine.specs.Stored.{bytea_text}

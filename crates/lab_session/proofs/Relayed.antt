@@ -1,7 +1,7 @@
 -- A reply is read message by message, and shown as it is read.
-use Rattle.std.proofs.Common.{◌≡◌, ◌≢◌, ℕ, ◌+◌, ◌^◌, ◌≤◌, ◌<◌, ◌==◌, zero, suc, take, drop, if◌then◌else◌, Bool, true, false, ◌&&◌, List, [], ◌∷◌, ◌++◌, length, map, Option, Some, None, Result, Ok, Err, refl, sym, ap, subst, ◌∙◌, append_assoc, arith}
+use Rattle.std.proofs.Common.{◌≡◌, ℕ, ◌+◌, ◌^◌, ◌≤◌, ◌<◌, ◌==◌, take, drop, if◌then◌else◌, Bool, true, false, ◌&&◌, List, [], ◌∷◌, ◌++◌, length, map, Option, Some, None, Result, Ok, Err, refl, sym, ap, subst, ◌∙◌, append_assoc, arith}
 use Rattle.std.specs.Result.{IsErr}
-use Rattle.std.specs.List.{flat_map, AllByRecursion}
+use Rattle.std.specs.List.{flat_map}
 use Rattle.std.specs.Int.{w32, to_be_bytes}
 use Rattle.std.proofs.lemmas.List.{append-nil, length-append, take-append-drop}
 use Rattle.acra_base.specs.Known.{Grew}
@@ -18,7 +18,7 @@ use Rattle.pg_wire.specs.declared.frame.ReadBody.{ReadBody}
 use Rattle.pg_wire.specs.declared.frame.ReadBody.TheVariants as read
 use Rattle.pg_wire.specs.declared.frame.Side.TheVariants as side
 use Rattle.pg_wire.specs.Frames.{counted, frame_bytes, IsFrame, is_type, asks_encryption, HasFault, IsUnfinished}
-use Rattle.pg_wire.specs.Streams.{Stream, behind, GivesFrame, Gives, new_stream, fed}
+use Rattle.pg_wire.specs.Streams.{Stream, GivesFrame, Gives, new_stream, fed}
 use Rattle.pg_wire.specs.Backs.{back_kind, back_body, back_frame}
 use Rattle.pg_wire.specs.Reading.{SpellsBack, ReadsAs}
 use Rattle.table_machine.specs.Replies.{IsWritable}

@@ -1,29 +1,27 @@
 -- What stands first in a client's stream, by the frame that is given.
-use Rattle.std.proofs.Common.{◌≡◌, ◌≢◌, ℕ, ◌+◌, ◌^◌, ◌≤◌, ◌<◌, Bool, true, false, List, [], ◌∷◌, ◌++◌, length, take, Option, Some, None, Result, Ok, Err, refl, sym, ap, subst, ◌∙◌, append_assoc, arith, lit≤, lit<}
+use Rattle.std.proofs.Common.{◌≡◌, ℕ, Bool, true, false, List, [], ◌++◌, Option, None, Result, Ok, Err, refl, sym, ap, subst, ◌∙◌, arith}
 use Rattle.std.specs.Prelude.{IfOk}
-use Rattle.std.proofs.lemmas.List.{append-nil, length-append}
 use Rattle.pg_wire.specs.declared.frame.Side.{Side}
 use Rattle.pg_wire.specs.declared.frame.Side.TheVariants as side
 use Rattle.pg_wire.specs.declared.frame.Frame.{Frame}
 use Rattle.pg_wire.specs.declared.frame.FrameFault.{FrameFault}
-use Rattle.pg_wire.specs.declared.frame.FrameFault.TheVariants as faults
 use Rattle.pg_wire.specs.declared.frame.NextFault.{NextFault}
 use Rattle.pg_wire.specs.declared.frame.NextFault.TheVariants as why
 use Rattle.pg_wire.specs.declared.frame.MessageFault.TheVariants as message
 use Rattle.pg_wire.specs.declared.front.Pair.{Pair}
 use Rattle.pg_wire.specs.declared.front.Front.{Front}
 use Rattle.pg_wire.specs.declared.front.Front.TheVariants as fronts
-use Rattle.pg_wire.specs.Frames.{frame_bytes, is_type, IsFrame, HasFault, IsUnfinished}
+use Rattle.pg_wire.specs.Frames.{frame_bytes, IsFrame, HasFault, IsUnfinished}
 use Rattle.pg_wire.specs.Streams.{Stream, behind, GivesFrame, Gives}
 use Rattle.pg_wire.specs.Fronts.{IsFront, str, front_kind, front_body}
 use Rattle.pg_wire.specs.Reading.{SpellsFront}
 use Rattle.sql_profile.specs.declared.statement.Statement.{Statement}
 use Rattle.plain_tables.specs.declared.encryption.Encryption.{Encryption}
 use Rattle.plain_tables.specs.declared.encryption.Encryption.TheVariants as encryption
-use Rattle.plain_tables.specs.Requests.{Request, Phase, is_opening, IsSaid, IsAsked, asking, message_of, message_limit}
+use Rattle.plain_tables.specs.Requests.{Request, is_opening, IsSaid, IsAsked, asking, message_of, message_limit}
 use Rattle.plain_tables.specs.BadMessages.{StandsFirst, is_placed, IsBad}
 use Rattle.lab_session.specs.Understood.{IsUnderstood}
-use Rattle.lab_session.specs.Answering.{phase_of, request_of, Takes, NextGives}
+use Rattle.lab_session.specs.Answering.{phase_of, Takes, NextGives}
 use Rattle.lab_session.specs.declared.said.Said.TheVariants as said
 use Rattle.lab_session.specs.declared.said.Next.{Next}
 use Rattle.lab_session.specs.declared.said.Next.TheVariants as next

@@ -1,21 +1,19 @@
 -- What is sent to the backend is a statement of the profile, and short enough.
-use Rattle.std.proofs.Common.{◌≡◌, ◌⊎◌, inl, inr, lit<, lit≤, ℕ, ℤ, pos, ◌+◌, ◌*◌, ◌^◌, ◌≤◌, ◌<◌, ◌==◌, nat_eq, Bool, true, false, suc, zero, List, [], ◌∷◌, ◌++◌, length, get_or, map, codes, Option, Some, None, Ok, refl, sym, ap, subst, ◌∙◌, arith, if◌then◌else◌}
-use Rattle.std.specs.List.{Contains, AllPass, flat_map, AllByRecursion}
-use Rattle.std.specs.Fmt.{decimal, signed_decimal}
-use Rattle.std.specs.Str.{IsUtf8, IsAscii}
+use Rattle.std.proofs.Common.{◌≡◌, inl, inr, lit<, lit≤, ℕ, ◌+◌, ◌*◌, ◌≤◌, ◌==◌, Bool, true, false, suc, zero, List, [], ◌∷◌, ◌++◌, length, map, codes, Option, Some, None, ap, subst, arith, if◌then◌else◌}
+use Rattle.std.specs.List.{Contains}
+use Rattle.std.specs.Fmt.{decimal}
+use Rattle.std.specs.Str.{IsAscii}
 use Rattle.std.proofs.lemmas.Str.{IsUtf8-from_ascii}
 use Rattle.std.proofs.lemmas.Fmt.{length-decimal-le}
 use Rattle.std.proofs.lemmas.List.{length-append}
-use Rattle.hex.specs.Hex.{lower_digits, encode_with, encode_lower, decode_of, is_hex_digit, IsBytes}
+use Rattle.hex.specs.Hex.{lower_digits, encode_lower, is_hex_digit, IsBytes}
 use Rattle.hex.proofs.HexLemmas.{decode_of-ok, decode_of-encode_lower, IsAscii-encode_with, length-encode_with}
 use Rattle.sql_profile.specs.declared.statement.Operand.{Operand}
-use Rattle.sql_profile.specs.declared.statement.Operand.TheVariants as operand
 use Rattle.sql_profile.specs.declared.statement.Item.{Item}
-use Rattle.sql_profile.specs.declared.statement.Items.{Items}
 use Rattle.sql_profile.specs.declared.statement.Items.TheVariants as select
 use Rattle.sql_profile.specs.declared.statement.Statement.{Statement}
 use Rattle.sql_profile.specs.declared.statement.Statement.TheVariants as statement
-use Rattle.sql_profile.specs.Tree.{notes, id, body, IsColumn, IsItem, AreItems, IsString, AreValues, AreColumns, AreRows, IsStatement}
+use Rattle.sql_profile.specs.Tree.{IsColumn, AreItems, IsString, AreValues, AreColumns, IsStatement}
 use Rattle.sql_profile.specs.Tokens.{doubled}
 use Rattle.sql_profile.specs.Canonical.{canon, joined, value_text, parenthesized, quoted, list_text}
 use Rattle.table_machine.specs.Stored.{bytea_text}

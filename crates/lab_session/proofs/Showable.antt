@@ -1,11 +1,10 @@
 -- What is shown of a message can be written: it is no longer than the message.
-use Rattle.std.proofs.Common.{◌≡◌, ℕ, ◌+◌, ◌*◌, ◌^◌, ◌≤◌, ◌<◌, nat_eq, nat_lt, Bool, true, false, List, [], ◌∷◌, ◌++◌, length, take, drop, Option, Some, None, Result, Ok, Err, lit<, suc, rules, refl, sym, ap, subst, ◌∙◌, arith, if◌then◌else◌}
+use Rattle.std.proofs.Common.{◌≡◌, ℕ, ◌≤◌, nat_eq, nat_lt, Bool, true, false, List, [], ◌∷◌, length, take, drop, Option, Some, None, Result, Ok, Err, lit<, suc, rules, refl, ap, ◌∙◌, arith, if◌then◌else◌}
 use Rattle.std.specs.List.{AllByRecursion, flat_map}
-use Rattle.std.specs.Option.{option_and_then}
 use Rattle.std.specs.Result.{result_ok}
 use Rattle.std.specs.Cmp.Lexicographic.{pointwise}
-use Rattle.std.specs.Int.{w16, w32, to_be_bytes, cast_unsigned}
-use Rattle.std.proofs.lemmas.Option.{option_and_then_some, cond_some}
+use Rattle.std.specs.Int.{w32, to_be_bytes}
+use Rattle.std.proofs.lemmas.Option.{option_and_then_some}
 use Rattle.std.proofs.lemmas.List.{length-append, length-drop}
 use Rattle.hex.specs.Hex.{decode_of}
 use Rattle.hex.specs.declared.FromHexError.{FromHexError}
@@ -21,11 +20,10 @@ use Rattle.acra_block.specs.Cells.{Parts, rest_opened, key_found, container_foun
 use Rattle.pg_wire.specs.declared.back.Field.{Field}
 use Rattle.pg_wire.specs.declared.back.Back.{Back}
 use Rattle.pg_wire.specs.declared.back.Back.TheVariants as backs
-use Rattle.pg_wire.specs.Fronts.{str}
-use Rattle.pg_wire.specs.Backs.{IsField, field_bytes, IsCell, cell_bytes, IsBack, back_body}
+use Rattle.pg_wire.specs.Backs.{IsField, field_bytes, IsCell, cell_bytes}
 use Rattle.table_machine.specs.Replies.{IsWritable}
 use Rattle.table_machine.proofs.Lengths.{length-field_bytes}
-use Rattle.plain_tables.specs.Shown.{as_text, where_protected, described, opened_or, shown_cell, shown_cells, shown_message}
+use Rattle.plain_tables.specs.Shown.{as_text, where_protected, opened_or, shown_cell, shown_message}
 use Rattle.lab_session.specs.Cells.{opening, text_bytes, value_of, value_in, opened_by}
 
 -- ---- what opens is shorter than its text

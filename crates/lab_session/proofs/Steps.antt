@@ -1,5 +1,5 @@
 -- The moves of a session.
-use Rattle.std.proofs.Common.{◌≡◌, ◌≢◌, ℕ, ◌+◌, ◌%◌, ◌^◌, ◌≤◌, ◌<◌, ◌⊎◌, inl, inr, ◌&&◌, Bool, true, false, ◌==◌, List, [], ◌∷◌, ◌++◌, length, Option, Some, None, Result, Ok, Err, refl, sym, ap, subst, ◌∙◌, append_assoc, arith}
+use Rattle.std.proofs.Common.{◌≡◌, ◌≢◌, ℕ, ◌+◌, ◌%◌, ◌^◌, ◌≤◌, inl, inr, ◌&&◌, Bool, true, false, ◌==◌, List, [], ◌∷◌, ◌++◌, length, Option, Ok, Err, refl, sym, ap, subst, ◌∙◌, append_assoc, arith}
 use Rattle.std.specs.Prelude.{IsErrOf}
 use Rattle.std.specs.List.{flat_map}
 use Rattle.std.proofs.lemmas.Bool.{eqb-true}
@@ -11,20 +11,20 @@ use Rattle.pg_wire.specs.declared.frame.MessageFault.{MessageFault}
 use Rattle.pg_wire.specs.declared.frame.Side.TheVariants as side
 use Rattle.pg_wire.specs.declared.front.Pair.{Pair}
 use Rattle.pg_wire.specs.declared.front.Front.TheVariants as fronts
-use Rattle.pg_wire.specs.Streams.{Stream, behind, fed, new_stream}
+use Rattle.pg_wire.specs.Streams.{Stream, fed, new_stream}
 use Rattle.pg_wire.specs.Frames.{asks_encryption, IsUnfinished}
-use Rattle.pg_wire.specs.Fronts.{front_kind, front_body}
-use Rattle.table_machine.specs.Backend.{Lab, new_lab, text_limit}
+use Rattle.pg_wire.specs.Fronts.{front_body}
+use Rattle.table_machine.specs.Backend.{Lab, new_lab}
 use Rattle.plain_tables.specs.declared.encryption.Encryption.{Encryption}
 use Rattle.plain_tables.specs.declared.encryption.Encryption.TheVariants as encryption
 use Rattle.plain_tables.specs.Requests.{Request, Phase, phase_after, phase_after_all, is_opening, IsSaid, AreSaid, asking, message_of, request_bytes, stream_of, message_limit}
-use Rattle.plain_tables.specs.BadMessages.{IsBad, IsCut}
+use Rattle.plain_tables.specs.BadMessages.{IsBad}
 use Rattle.plain_tables.specs.Standing.{StandFor}
 use Rattle.acra_block.specs.Keys.{Key}
 use Rattle.lab_session.specs.Cells.{IsStored}
 use Rattle.lab_session.specs.Runs.{State, started, state_after, state_after_all, answer, answers}
-use Rattle.lab_session.specs.Session.{PieceRead, PieceTaken, SentFront, Rests, SoFar, Ends, status_of, may_begin, MayBegin, Ran}
-use Rattle.lab_session.specs.Answering.{request_of, phase_of, awaits_after, Takes, NextGives, Answered, Broken}
+use Rattle.lab_session.specs.Session.{PieceRead, PieceTaken, Rests, SoFar, Ends, status_of, may_begin, Ran}
+use Rattle.lab_session.specs.Answering.{request_of, phase_of, Takes, NextGives, Answered, Broken}
 use Rattle.lab_session.specs.declared.said.Next.{Next}
 use Rattle.lab_session.specs.declared.stop.Stop.{Stop}
 use Rattle.lab_session.specs.declared.stop.Stop.TheVariants as stops

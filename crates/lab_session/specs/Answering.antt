@@ -1,5 +1,5 @@
 -- What a client asks next, and what answering it does.
-use Rattle.std.specs.Prelude.{ℕ, ◌≡◌, ◌≢◌, ◌⊎◌, Bool, true, false, Option, Some, None, Result, Ok, Err, List, [], ◌++◌}
+use Rattle.std.specs.Prelude.{ℕ, ◌≡◌, ◌⊎◌, Bool, true, false, Option, Result, Ok, Err, List, ◌++◌}
 use Rattle.rand_chacha.specs.ChaCha.{ChaCha}
 use Rattle.acra_base.specs.Known.{Grew}
 use Rattle.pg_wire.specs.declared.front.Front.TheVariants as fronts
@@ -8,7 +8,6 @@ use Rattle.pg_wire.specs.Frames.{IsFrame, IsUnfinished}
 use Rattle.pg_wire.specs.declared.frame.Side.TheVariants as side
 use Rattle.pg_wire.specs.Fronts.{IsFront, front_kind, front_body}
 use Rattle.sql_profile.specs.Tree.{IsStatement}
-use Rattle.table_machine.specs.declared.cell.Cell.{Cell}
 use Rattle.table_machine.specs.Backend.{Lab}
 use Rattle.plain_tables.specs.Requests.{Request, Phase, phase_after, is_opening, IsSaid, message_of, request_bytes, message_limit, has_short_strings}
 use Rattle.plain_tables.specs.BadMessages.{IsBad}

@@ -1,4 +1,4 @@
-use Rattle.std.proofs.Common.{◌≡◌, ◌-◌, ℕ, List, Option, IfOk, length, take, drop, subst, ap}
+use Rattle.std.proofs.Common.{◌≡◌, ◌-◌, ℕ, List, IfOk, length, take, drop, subst}
 use Rattle.std.proofs.lemmas.List.{take_rest}
 use Rattle.acra_block.proofs.container.open_value.Goals as goal
 

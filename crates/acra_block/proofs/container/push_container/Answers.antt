@@ -1,4 +1,4 @@
-use Rattle.std.proofs.Common.{◌≡◌, ℕ, List, ◌++◌, length, ap, ◌∙◌, rules}
+use Rattle.std.proofs.Common.{ℕ, List, ◌++◌, length, ap, ◌∙◌, rules}
 use Rattle.acra_block.specs.Containers.{header, data_key, key_nonce, value_nonce}
 use Rattle.acra_block.proofs.Pieces.{five_pieces}
 use Rattle.acra_block.proofs.container.push_container.Goals as goal

@@ -1,5 +1,4 @@
-use Rattle.std.proofs.Common.{◌≡◌, ◌≤◌, ◌+◌, ℕ, sym, ap, ◌∙◌, arith, drop, length}
-use Rattle.acra_block.specs.Characters.{count_characters}
+use Rattle.std.proofs.Common.{sym, ◌∙◌, arith}
 use Rattle.acra_block.proofs.Cutting.{count_next, count_on, none_counted}
 use Rattle.acra_block.proofs.cut.characters.Goals.{then-begins_character, else-begins_character}
 use Rattle.acra_block.proofs.cut.characters.Goals as goal

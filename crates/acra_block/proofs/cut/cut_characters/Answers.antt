@@ -1,5 +1,4 @@
-use Rattle.std.proofs.Common.{◌≡◌, ◌<◌, ◌-◌, ℕ, Bool, List, length, take, drop, sym, ap, subst, ◌∙◌, arith}
-use Rattle.acra_block.specs.Cells.{cut}
+use Rattle.std.proofs.Common.{◌<◌, ◌-◌, ℕ, take, drop, ap, ◌∙◌, arith}
 use Rattle.acra_block.specs.Characters.{first_len, count_characters}
 use Rattle.acra_block.proofs.Cutting.{cut_none, cut_left, cut_right}
 use Rattle.acra_block.proofs.cut.cut_characters.Goals as goal

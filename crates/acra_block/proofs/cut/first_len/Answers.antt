@@ -1,4 +1,4 @@
-use Rattle.std.proofs.Common.{◌≡◌, ◌≤◌, ◌+◌, ◌-◌, ℕ, sym, ap, ◌∙◌, arith, drop, length}
+use Rattle.std.proofs.Common.{ℕ, sym, ap, ◌∙◌, arith, drop}
 use Rattle.acra_block.specs.Characters.{first_len}
 use Rattle.acra_block.proofs.Cutting.{len_at, next_step, on_step, none_left}
 use Rattle.acra_block.proofs.cut.first_len.Goals.{then-begins_character+else-left-eq0, else-begins_character}

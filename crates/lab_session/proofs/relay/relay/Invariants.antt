@@ -1,10 +1,8 @@
-use Rattle.std.proofs.Common.{◌≡◌, ◌≤◌, ℕ, List, ◌++◌, length, map}
+use Rattle.std.proofs.Common.{◌≤◌, List, length}
 use Rattle.pg_wire.specs.declared.back.Back.{Back}
-use Rattle.acra_base.specs.Known.{Grew}
-use Rattle.plain_tables.specs.Reply.{reply_bytes}
 use Rattle.plain_tables.specs.Shown.{shown_message}
 use Rattle.lab_session.specs.Cells.{opened_by}
-use Rattle.lab_session.specs.Relaying.{IsReply, Holds}
+use Rattle.lab_session.specs.Relaying.{IsReply}
 use Rattle.lab_session.proofs.Relayed.{Shown}
 use Rattle.lab_session.proofs.relay.relay.Given as goal
 

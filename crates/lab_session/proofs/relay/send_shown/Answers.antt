@@ -1,6 +1,5 @@
-use Rattle.std.proofs.Common.{◌≡◌, ◌++◌, ◌<◌, ◌+◌, ◌^◌, List, ℕ, length, sym, subst, ap, ◌∙◌}
-use Rattle.pg_wire.specs.declared.back.Back.{Back}
-use Rattle.pg_wire.specs.Backs.{IsBack, back_body, back_frame}
+use Rattle.std.proofs.Common.{◌++◌, List, ℕ, sym, subst, ap, ◌∙◌}
+use Rattle.pg_wire.specs.Backs.{back_frame}
 use Rattle.table_machine.specs.Replies.{IsWritable}
 use Rattle.lab_session.proofs.Showable.{shown_writable}
 use Rattle.lab_session.proofs.Relayed.{sent_as, failed_sends}

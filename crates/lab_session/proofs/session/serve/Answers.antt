@@ -1,6 +1,5 @@
-use Rattle.std.proofs.Common.{◌≡◌, ℕ, Bool, true, List, [], ◌∷◌, ◌++◌, ◌+◌, arith, ap, sym, ◌∙◌, refl, subst, inl, inr}
+use Rattle.std.proofs.Common.{◌≡◌, Bool, true, [], ◌++◌, arith, sym, subst, inl}
 use Rattle.acra_base.specs.declared.no_memory.NoMemory.{NoMemory}
-use Rattle.plain_tables.specs.Requests.{Request}
 use Rattle.acra_block.specs.Keys.{Key}
 use Rattle.lab_session.specs.Runs.{started, state_after_all}
 use Rattle.lab_session.specs.Session.{Rests, Ends, may_begin}

@@ -1,4 +1,4 @@
-use Rattle.std.proofs.Common.{◌≡◌, ℕ, List, ◌+◌, ◌-◌, ◌*◌, ◌^◌, ◌≤◌, length}
+use Rattle.std.proofs.Common.{List, ◌+◌, ◌-◌, ◌*◌, ◌^◌, ◌≤◌, length}
 use Rattle.plain_tables.specs.Requests.{Request}
 use Rattle.lab_session.specs.Session.{SoFar}
 use Rattle.lab_session.proofs.session.serve.Given as goal

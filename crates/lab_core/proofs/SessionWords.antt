@@ -1,4 +1,4 @@
-use Rattle.std.proofs.Common.{◌≡◌, ℕ, List, [], ◌∷◌, length, get_or, refl, suc, arith, ap, ◌∙◌, sym, subst, Option, Some, Bool, true, false, not}
+use Rattle.std.proofs.Common.{◌≡◌, ℕ, List, [], ◌∷◌, length, get_or, refl, arith, ap, ◌∙◌, sym, subst, Some, Bool, true, false, not}
 use Rattle.std.specs.Prelude.{map, codes, nat_eq}
 use Rattle.std.specs.Cmp.Lexicographic.{pointwise, same_text}
 use Rattle.acra_base.specs.Client.{IsClientId}

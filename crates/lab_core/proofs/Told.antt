@@ -1,9 +1,8 @@
 -- From what a session did to what is told of it.
-use Rattle.std.proofs.Common.{◌≡◌, ◌≢◌, ℕ, ◌+◌, ◌^◌, ◌≤◌, ◌⊎◌, inl, inr, Bool, true, false, Option, Some, None, List, [], ◌∷◌, ◌++◌, length, get_or, unwrap_or, refl, sym, ap, subst, ◌∙◌, append_assoc, arith}
+use Rattle.std.proofs.Common.{◌≡◌, ◌≢◌, ℕ, ◌+◌, ◌≤◌, inl, inr, Bool, true, false, Option, Some, None, List, [], ◌∷◌, ◌++◌, length, get_or, unwrap_or, refl, sym, ap, subst, ◌∙◌, arith}
 use Rattle.std.specs.List.{flat_map}
 use Rattle.std.proofs.lemmas.List.{append-nil, length-append}
 use Rattle.rand_chacha.specs.ChaCha.{ChaCha}
-use Rattle.acra_base.specs.Client.{IsClientId}
 use Rattle.acra_base.specs.Known.{IsAtEnd}
 use Rattle.pg_wire.specs.declared.frame.MessageFault.{MessageFault}
 use Rattle.pg_wire.specs.declared.frame.MessageFault.TheVariants as message

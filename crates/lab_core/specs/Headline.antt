@@ -1,5 +1,5 @@
 -- The headline: what a client is sent, by the bytes that it sent.
-use Rattle.std.specs.Prelude.{ℕ, ◌≡◌, ◌≢◌, ◌+◌, ◌^◌, ◌≤◌, ◌⊎◌, Option, None, Some, List, [], ◌∷◌, ◌++◌, length}
+use Rattle.std.specs.Prelude.{ℕ, ◌≡◌, ◌+◌, ◌^◌, ◌≤◌, ◌⊎◌, Option, Some, List, [], ◌++◌, length}
 use Rattle.std.specs.List.{flat_map}
 use Rattle.pg_wire.specs.declared.frame.MessageFault.{MessageFault}
 use Rattle.plain_tables.specs.Requests.{Request, Phase, phase_after_all, AreSaid, request_bytes, stream_of, Splits}

@@ -1,4 +1,3 @@
-use Rattle.std.proofs.Common.{◌≡◌}
 use Rattle.lab_core.proofs.Told.{headline_of, due_of, named}
 use Rattle.lab_core.proofs.top.lab_top.Goals as goal
 

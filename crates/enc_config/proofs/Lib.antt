@@ -1,0 +1,7 @@
+pub mod Listed
+pub mod Reached
+pub mod Search
+pub mod Named
+pub mod Made
+pub mod Bounds
+pub mod Crowd

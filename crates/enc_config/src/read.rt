@@ -1,0 +1,79 @@
+//! Reading the text of a policy.
+ghost use Rattle.std.specs.Prelude.{◌≡◌, IfOk, IfErr};
+ghost use Rattle.enc_config.specs.Reads.{IsPolicy, IsFault, Fits16, refusal_at};
+
+use crate::make::policy_of;
+use crate::places::{Place, first_broken};
+use crate::policy::Policy;
+use crate::texts::read_texts;
+use acra_base::NoMemory;
+use std::alloc::Global;
+
+/// Stands for no schema and for no entry.
+pub const NO_PLACE: u16 = 65535;
+
+/// The least rule that a text breaks, at its first place: the schema and the entry are indices from 0, `NO_PLACE`
+/// where the rule doesn't concern one.
+#[derive(Clone, Copy, Debug, PartialEq, Eq)]
+pub struct ConfigRefusal {
+    pub schema: u16,
+    pub entry: u16,
+    pub rule: u8,
+}
+
+/// Why a text gives no policy.
+#[derive(Clone, Copy, Debug, PartialEq, Eq)]
+pub enum PolicyFault {
+    Refused(ConfigRefusal),
+    NoMemory,
+}
+
+impl From<NoMemory> for PolicyFault {
+    ghost use Rattle.enc_config.specs.declared.read.PolicyFault.TheVariants as faults;
+    ghost use Rattle.std.specs.Prelude.{◌≡◌};
+
+    ghost from_gives = { λ _ e. e ≡ faults.NoMemory };
+
+    fn from(_fault: NoMemory) -> PolicyFault {
+        PolicyFault::NoMemory
+    }
+}
+
+fn refusal(rule: u8, place: Place) -> ConfigRefusal
+    requires { Fits16 place }
+    ensures { result ≡ refusal_at rule place }
+{
+    match place {
+        Place::Text => ConfigRefusal {
+            schema: NO_PLACE,
+            entry: NO_PLACE,
+            rule,
+        },
+        Place::Entry { schema, entry } => ConfigRefusal {
+            schema: schema as u16,
+            entry: entry as u16,
+            rule,
+        },
+        Place::Schema { schema } => ConfigRefusal {
+            schema: schema as u16,
+            entry: NO_PLACE,
+            rule,
+        },
+    }
+}
+
+/// Reads the text of a policy: its policy, or the least rule that is broken, at its first place.
+pub fn read_policy(alloc: Global, text: &[u8]) -> Result<Policy, PolicyFault>
+    ensures policy { IfOk result (λ p. IsPolicy text.now p) }
+    ensures refused { IfErr result (λ fault. IsFault text.now fault) }
+{
+    let Some(schemas) = read_texts(alloc, text)? else {
+        return Err(PolicyFault::Refused(refusal(1, Place::Text)));
+    };
+    let schemas = schemas.as_slice();
+    let found = first_broken(alloc, schemas)?;
+    match found {
+        Some(broken) => Err(PolicyFault::Refused(refusal(broken.rule, broken.place))),
+        None => Ok(policy_of(alloc, schemas)?),
+    }
+}

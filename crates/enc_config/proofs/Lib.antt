@@ -5,3 +5,4 @@ pub mod Named
 pub mod Made
 pub mod Bounds
 pub mod Crowd
+pub mod Ordered

@@ -11,3 +11,4 @@ pub mod Policies
 pub mod Reads
 pub mod Clients
 pub mod FoundClients
+pub mod Order

@@ -111,6 +111,10 @@ has_bad_response e = not (option_map_or is_response e.response_on_fail true) || 
 abbrev pub has_bad_default : EntryText → Bool
 has_bad_default e = is_some e.default_data_value && not (is_some e.default_plain)
 
+-- rule 14, until tokens are served
+abbrev pub has_token : EntryText → Bool
+has_token e = is_some e.token_type
+
 -- ---- the rules by number
 
 abbrev pub schema_breaks : ℕ → List SchemaText → SchemaText → Bool
@@ -134,6 +138,7 @@ entry_breaks rule s earlier e =
     else if rule == 11 then has_bad_token e
     else if rule == 12 then has_bad_response e
     else if rule == 13 then has_bad_default e
+    else if rule == 14 then has_token e
     else false
 
 -- a rule but the seventh is broken at a place of these schemas

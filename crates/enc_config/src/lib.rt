@@ -3,6 +3,7 @@
 
 mod clients;
 mod defaults;
+mod laws;
 mod make;
 mod members;
 mod places;
@@ -13,6 +14,7 @@ mod texts;
 mod words;
 
 pub use plain_values::{MOST_PLAIN, ValueRefusal, canonical_binary, canonical_text, spell};
+pub use laws::{one_answer, places_by_numbers};
 pub use policy::{Column, ColumnRule, Policy, Shape, Strangers, Table};
 pub use read::{ConfigRefusal, NO_PLACE, PolicyFault, read_policy};
 

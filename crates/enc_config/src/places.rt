@@ -95,7 +95,7 @@ pub(crate) fn first_broken(
 ) -> Result<Option<Broken>, NoMemory>
     ensures { IfOk result (λ found. MatchOption found (IsUnbroken (breaks schemas.now)) (λ b. IsLeast (breaks schemas.now) b.rule b.place)) }
 {
-    'each: for rule in 2..14 {
+    'each: for rule in 2..15 {
         let found = first_of_rule(alloc, rule, schemas)?;
         if let Some(place) = found {
             return Ok(Some(Broken { rule, place }));

@@ -4,7 +4,7 @@ ghost use Rattle.std.specs.List.{list_all, list_any};
 ghost use Rattle.std.specs.Option.{option_map_or};
 ghost use Rattle.acra_base.specs.Names.{is_name};
 ghost use Rattle.enc_config.specs.Words.{type_word};
-ghost use Rattle.enc_config.specs.Rules.{kind_of, is_mask, is_side, is_masking, has_bad_mask, is_response, shows_default, has_bad_response, has_bad_default, is_other, is_no_kind, differ, is_too_large, has_bad_name, stands_twice, is_plain, has_no_plain_column, has_bad_type, has_bad_word, are_two, has_two_shapes, has_bad_token, schema_breaks, entry_breaks};
+ghost use Rattle.enc_config.specs.Rules.{kind_of, is_mask, is_side, is_masking, has_bad_mask, is_response, shows_default, has_bad_response, has_bad_default, is_other, is_no_kind, differ, is_too_large, has_bad_name, stands_twice, is_plain, has_no_plain_column, has_bad_type, has_bad_word, are_two, has_two_shapes, has_bad_token, has_token, schema_breaks, entry_breaks};
 
 use crate::texts::{EntryText, SchemaText, TypeText};
 use crate::words::{
@@ -254,6 +254,13 @@ fn has_bad_token(entry: &EntryText) -> bool
             && (entry.masking.is_some() || entry.token_type.is_some()))
 }
 
+/// Tokens are barred until they are served.
+fn has_token(entry: &EntryText) -> bool
+    ensures { result ≡ has_token entry.now }
+{
+    entry.token_type.is_some()
+}
+
 /// Whether a schema breaks the rule of this number; `earlier` are the schemas before it.
 pub(crate) fn schema_breaks(rule: u8, earlier: &[SchemaText], schema: &SchemaText) -> bool
     ensures { result ≡ schema_breaks rule earlier.now schema.now }
@@ -288,6 +295,7 @@ pub(crate) fn entry_breaks(
         11 => has_bad_token(entry),
         12 => has_bad_response(entry),
         13 => has_bad_default(entry),
+        14 => has_token(entry),
         _ => false,
     }
 }

@@ -118,7 +118,8 @@ impl Policy {
 
     /// The place of the table of this name.
     pub fn table(&self, name: &[u8]) -> Option<u16>
-        ensures { result ≡ position_from (λ t. bytes_eq name.now t.name) 0 self.now }
+        ensures place { result ≡ position_from (λ t. bytes_eq name.now t.name) 0 self.now }
+        ensures within { IfSome result (λ table. table < length self.now) }
     {
         match place_of_table(self.tables.as_slice(), name) {
             Some(place) => Some(place as u16),
@@ -149,7 +150,8 @@ impl Policy {
     /// The place of the column of this name in a table.
     pub fn find(&self, table: u16, name: &[u8]) -> Option<u16>
         requires { table < length self.now }
-        ensures { HoldsAt (λ t. result ≡ position_from (λ c. bytes_eq name.now c.name) 0 t.columns) self.now table }
+        ensures place { HoldsAt (λ t. result ≡ position_from (λ c. bytes_eq name.now c.name) 0 t.columns) self.now table }
+        ensures within { IfSome result (λ column. HoldsAt (λ t. column < length t.columns) self.now table) }
     {
         match place_of_column(
             self.tables.as_slice()[table as usize].columns.as_slice(),

@@ -8,6 +8,8 @@ use crate::policy::Policy;
 use crate::texts::read_texts;
 use acra_base::NoMemory;
 use std::alloc::Global;
+use std::error::Error;
+use std::fmt;
 
 /// Stands for no schema and for no entry.
 pub const NO_PLACE: u16 = 65535;
@@ -21,10 +23,29 @@ pub struct ConfigRefusal {
     pub rule: u8,
 }
 
+impl fmt::Display for ConfigRefusal {
+    fn fmt<W: fmt::Write>(&self, f: &mut fmt::Formatter<W>) -> fmt::Result {
+        write!(f, "rule {}", self.rule)?;
+        if self.schema != NO_PLACE {
+            write!(f, " at schema {}", self.schema)?;
+        }
+        if self.entry != NO_PLACE {
+            write!(f, ", entry {}", self.entry)?;
+        }
+        Ok(())
+    }
+}
+
+impl Error for ConfigRefusal {}
+
 /// Why a text gives no policy.
-#[derive(Clone, Copy, Debug, PartialEq, Eq)]
+#[derive(Clone, Copy, Debug, PartialEq, Eq, thiserror::Error)]
 pub enum PolicyFault {
+    /// The text breaks a rule.
+    #[error("policy refused: {0}")]
     Refused(ConfigRefusal),
+    /// There was no memory for the policy, or for what the text says.
+    #[error("out of memory")]
     NoMemory,
 }
 

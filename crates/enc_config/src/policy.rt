@@ -11,14 +11,19 @@ use std::marker::Model;
 pub enum Shape {
     /// As the client sends it.
     Plain,
+    /// Sealed.
     Sealed,
+    /// Sealed, beside an index by which equal values are found.
     Searchable,
-    /// `length` bytes or characters of the plaintext are shown, at the left or else the right, beside the mask.
+    /// `length` characters of a str, or bytes, stay readable at the left or else the right end. The
+    /// rest is sealed, and others are shown the mask in its place, at most 64 bytes. `length` is at
+    /// most 2^18.
     Masked {
         left: bool,
         length: u32,
         mask: Bytes,
     },
+    /// A token stands for it; where consistent, equal values of a client have equal tokens.
     Token {
         consistent: bool,
     },
@@ -27,14 +32,18 @@ pub enum Shape {
 /// What a client sees that isn't the owner.
 #[derive(Drop)]
 pub enum Strangers {
+    /// What is stored.
     Stored,
-    /// The canonical plaintext of the default value.
+    /// A default value in place of every value; its canonical plaintext, at most 1,024 bytes.
     Default(Bytes),
+    /// What stays readable, and the mask.
     Mask,
+    /// The token.
     Token,
 }
 
-/// What the policy says of a column. Without an owner, the client that writes a cell owns it.
+/// What the policy says of a column. Of a protected column without an owner, whoever writes a value
+/// owns it. A plain column has no owner.
 #[derive(Drop)]
 pub struct ColumnRule {
     pub owner: Option<ClientId>,
@@ -43,21 +52,24 @@ pub struct ColumnRule {
     pub strangers: Strangers,
 }
 
+/// A column of a table, with its rule.
 #[derive(Drop)]
 pub struct Column {
     pub name: Name,
     pub rule: ColumnRule,
 }
 
+/// A table, with its columns in the order of the text.
 #[derive(Drop)]
 pub struct Table {
     pub name: Name,
     pub columns: Sequence<Column>,
-    /// The place of the lab's key column.
+    /// The place of the column by which the lab's table tells its rows apart.
     pub key: Option<u16>,
 }
 
-/// A policy, which contracts see as its tables.
+/// A policy, which contracts see as its tables: at most 256, of at most 256 columns each. A look-up
+/// takes no memory, and finds a table or a column by comparing names in order.
 #[derive(Drop)]
 pub struct Policy {
     tables: Sequence<Table>,
@@ -116,7 +128,7 @@ impl Policy {
         self.tables.as_slice()
     }
 
-    /// The place of the table of this name.
+    /// The place of the table of this name, from 0; none where no table has it.
     pub fn table(&self, name: &[u8]) -> Option<u16>
         ensures place { result ≡ position_from (λ t. bytes_eq name.now t.name) 0 self.now }
         ensures within { IfSome result (λ table. table < length self.now) }
@@ -127,7 +139,7 @@ impl Policy {
         }
     }
 
-    /// How many columns a table has.
+    /// How many columns a table has, 0 to 256.
     pub fn columns(&self, table: u16) -> u16
         requires { table < length self.now }
         ensures { HoldsAt (λ t. result ≡ length t.columns) self.now table }
@@ -147,7 +159,7 @@ impl Policy {
         &self.tables.as_slice()[table as usize].columns.as_slice()[column as usize].name
     }
 
-    /// The place of the column of this name in a table.
+    /// The place of the column of this name in a table, from 0; none where no column has it.
     pub fn find(&self, table: u16, name: &[u8]) -> Option<u16>
         requires { table < length self.now }
         ensures place { HoldsAt (λ t. result ≡ position_from (λ c. bytes_eq name.now c.name) 0 t.columns) self.now table }

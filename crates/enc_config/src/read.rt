@@ -14,8 +14,8 @@ use std::fmt;
 /// Stands for no schema and for no entry.
 pub const NO_PLACE: u16 = 65535;
 
-/// The least rule that a text breaks, at its first place: the schema and the entry are indices from 0, `NO_PLACE`
-/// where the rule doesn't concern one.
+/// The least rule that a text breaks, 1 to 14, at its first place: the schema and the entry are
+/// indices from 0, `NO_PLACE` where the rule doesn't concern one.
 #[derive(Clone, Copy, Debug, PartialEq, Eq)]
 pub struct ConfigRefusal {
     pub schema: u16,
@@ -83,7 +83,8 @@ fn refusal(rule: u8, place: Place) -> ConfigRefusal
     }
 }
 
-/// Reads the text of a policy: its policy, or the least rule that is broken, at its first place.
+/// Reads the text of a policy, JSON (RFC 8259) in UTF-8: its policy, or the least rule that is
+/// broken, at its first place. `docs/POLICY.md` has the members and the rules.
 pub fn read_policy(alloc: Global, text: &[u8]) -> Result<Policy, PolicyFault>
     ensures policy { IfOk result (λ p. IsPolicy text.now p) }
     ensures refused { IfErr result (λ fault. IsFault text.now fault) }

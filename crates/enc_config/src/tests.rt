@@ -10,11 +10,16 @@ const NOTES: &str =
 
 /// A table with a searchable, a masked and a sealed column.
 const CUSTOMERS: &str =
-    r#"{"schemas":[{"table":"customers","columns":["id","mail","card","pin"],"types":{"id":"int8"},"key":"id","encrypted":[{"column":"mail","data_type":"str","searchable":true,"response_on_fail":"default_value","default_data_value":"hidden"},{"column":"card","data_type":"str","masking":"xxxx","plaintext_length":4,"plaintext_side":"left"},{"column":"pin","data_type":"int32","client_id":"till"}]}]}"#;
+    r#"{"schemas":[{"table":"customers","columns":["id","mail","card","phone","pin"],"types":{"id":"int8"},"key":"id","encrypted":[{"column":"mail","data_type":"str","searchable":true,"response_on_fail":"default_value","default_data_value":"hidden"},{"column":"card","data_type":"str","masking":"xxxx","plaintext_length":4,"plaintext_side":"left"},{"column":"pin","data_type":"int32","client_id":"till"}]}]}"#;
 
 /// The same with a column of tokens.
 const TOKENS: &str =
     r#"{"schemas":[{"table":"customers","columns":["id","mail","card","phone","pin"],"types":{"id":"int8"},"key":"id","encrypted":[{"column":"mail","data_type":"str","searchable":true,"response_on_fail":"default_value","default_data_value":"hidden"},{"column":"card","data_type":"str","masking":"xxxx","plaintext_length":4,"plaintext_side":"left"},{"column":"phone","token_type":"str","consistent_tokenization":true},{"column":"pin","data_type":"int32"}]}]}"#;
+
+/// Whether a rule is that of a plain column of a kind.
+fn is_plain(rule: &ColumnRule, kind: ValueKind) -> bool {
+    matches!(rule.shape, Shape::Plain) && rule.value == kind && rule.owner.is_none()
+}
 
 #[test]
 fn a_policy_with_one_sealed_column(rt: HostRuntime) {
@@ -27,8 +32,7 @@ fn a_policy_with_one_sealed_column(rt: HostRuntime) {
         [table] => match table.columns.as_slice() {
             [id, body] => {
                 assert_eq!(rt; id.name.as_slice(), b"id".as_slice());
-                assert!(rt; matches!(id.rule.shape, Shape::Plain));
-                assert!(rt; id.rule.value == ValueKind::Int64);
+                assert!(rt; is_plain(&id.rule, ValueKind::Int64));
                 assert_eq!(rt; body.name.as_slice(), b"body".as_slice());
                 assert!(rt; matches!(body.rule.shape, Shape::Sealed));
                 assert!(rt; body.rule.value == ValueKind::Str && body.rule.owner.is_none());
@@ -81,10 +85,11 @@ fn a_policy_with_each_shape(rt: HostRuntime) {
         [table] => {
             assert_eq!(rt; table.key, Some(0));
             match table.columns.as_slice() {
-                [id, mail, card, pin] => {
-                    assert!(rt; matches!(id.rule.shape, Shape::Plain));
+                [id, mail, card, phone, pin] => {
+                    assert!(rt; is_plain(&id.rule, ValueKind::Int64));
                     assert!(rt; is_mail(&mail.rule));
                     assert!(rt; is_card(&card.rule));
+                    assert!(rt; is_plain(&phone.rule, ValueKind::Str));
                     assert!(rt; is_pin(&pin.rule));
                 }
                 _ => panic!(rt; "columns"),
@@ -102,10 +107,10 @@ fn look_ups(rt: HostRuntime) {
     let Some(table) = policy.table(b"customers") else {
         panic!(rt; "table");
     };
-    assert_eq!(rt; policy.columns(table), 4);
+    assert_eq!(rt; policy.columns(table), 5);
     assert_eq!(rt; policy.find(table, b"id"), Some(0));
     assert_eq!(rt; policy.find(table, b"card"), Some(2));
-    assert_eq!(rt; policy.find(table, b"phone"), None);
+    assert_eq!(rt; policy.find(table, b"name"), None);
     match policy.find(table, b"pin") {
         Some(column) => {
             assert_eq!(rt; policy.name(table, column).as_slice(), b"pin".as_slice());
@@ -230,58 +235,76 @@ fn entries_that_break_a_rule(rt: HostRuntime) -> Result<(), Fail> {
     Ok(())
 }
 
-/// The refusal of a text whose entry is masked so.
-fn refusal_of_mask(alloc: Global, members: &str) -> Result<(u16, u16, u8), AllocError> {
-    let mut text = String::from_str(alloc, r#""column":"a",""#)?;
+/// The rule that an entry with these members breaks, 0 where it breaks none.
+fn rule_of(alloc: Global, members: &str) -> Result<u8, AllocError> {
+    let mut text = String::from_str(alloc, r#""column":"a","#)?;
     text.push_str(members)?;
-    refusal_of_entry(alloc, text.as_str())
+    let (_, _, rule) = refusal_of_entry(alloc, text.as_str())?;
+    Ok(rule)
 }
 
 #[test]
-fn masks_and_defaults(rt: HostRuntime) -> Result<(), Fail> {
+fn masks(rt: HostRuntime) -> Result<(), Fail> {
     let cases = [
         (
-            r#"masking":"","plaintext_length":262144,"plaintext_side":"right""#,
-            (0, 0, 0),
+            r#""masking":"","plaintext_length":262144,"plaintext_side":"right""#,
+            0,
         ),
         (
-            r#"masking":"x","plaintext_length":262145,"plaintext_side":"left""#,
-            (1, 1, 10),
+            r#""masking":"x","plaintext_length":262145,"plaintext_side":"left""#,
+            10,
         ),
         (
-            r#"masking":"x","plaintext_length":4,"plaintext_side":"top""#,
-            (1, 1, 10),
+            r#""masking":"x","plaintext_length":4,"plaintext_side":"top""#,
+            10,
         ),
         (
-            r#"masking":"x\u0000","plaintext_length":4,"plaintext_side":"left""#,
-            (1, 1, 10),
+            r#""masking":"xxxxxxxxxxxxxxxxxxxxxxxxxxxxxxxxxxxxxxxxxxxxxxxxxxxxxxxxxxxxxxxxx","plaintext_length":4,"plaintext_side":"left""#,
+            10,
         ),
         (
-            r#"data_type":"int32","masking":"x","plaintext_length":4,"plaintext_side":"left""#,
-            (1, 1, 10),
-        ),
-        (r#"response_on_fail":"ciphertext""#, (0, 0, 0)),
-        (r#"response_on_fail":"default_value""#, (1, 1, 12)),
-        (
-            r#"response_on_fail":"default_value","default_data_value":"aGk=""#,
-            (0, 0, 0),
+            r#""masking":"x\u0000","plaintext_length":4,"plaintext_side":"left""#,
+            10,
         ),
         (
-            r#"response_on_fail":"default_value","default_data_value":"aGk""#,
-            (1, 1, 13),
+            r#""data_type":"int32","masking":"x","plaintext_length":4,"plaintext_side":"left""#,
+            10,
         ),
         (
-            r#"data_type":"int64","response_on_fail":"default_value","default_data_value":" -1""#,
-            (0, 0, 0),
-        ),
-        (
-            r#"data_type":"int32","response_on_fail":"default_value","default_data_value":"2147483648""#,
-            (1, 1, 13),
+            r#""masking":"x","plaintext_length":4,"plaintext_side":"left","response_on_fail":"ciphertext""#,
+            11,
         ),
     ];
-    for (members, expected) in cases {
-        let found = refusal_of_mask(rt.alloc(), members)?;
-        assert!(rt; found == expected, "{members}");
+    for (members, rule) in cases {
+        assert!(rt; rule_of(rt.alloc(), members)? == rule, "{members}");
+    }
+    Ok(())
+}
+
+#[test]
+fn defaults(rt: HostRuntime) -> Result<(), Fail> {
+    let cases = [
+        (r#""response_on_fail":"ciphertext""#, 0),
+        (r#""response_on_fail":"default_value""#, 12),
+        (
+            r#""response_on_fail":"default_value","default_data_value":"aGk=""#,
+            0,
+        ),
+        (
+            r#""response_on_fail":"default_value","default_data_value":"aGk""#,
+            13,
+        ),
+        (
+            r#""data_type":"int64","response_on_fail":"default_value","default_data_value":" -1""#,
+            0,
+        ),
+        (
+            r#""data_type":"int32","response_on_fail":"default_value","default_data_value":"2147483648""#,
+            13,
+        ),
+    ];
+    for (members, rule) in cases {
+        assert!(rt; rule_of(rt.alloc(), members)? == rule, "{members}");
     }
     Ok(())
 }

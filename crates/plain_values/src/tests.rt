@@ -5,7 +5,7 @@ use acra_base::ValueKind;
 use std::alloc::Global;
 use std::test::Fail;
 
-// By the PostgreSQL manual: integers as in "Numeric Types", bytea in hex format.
+// PostgreSQL 15 gives these for the same literals of int4, int8 and bytea.
 #[test]
 fn texts_and_their_canonical_form(rt: HostRuntime) {
     let cases: [(ValueKind, &[u8], &[u8]); 15] = [

@@ -102,8 +102,7 @@ fn spellings(rt: HostRuntime) -> Result<(), Fail> {
     let mut out = Vec::new(rt.alloc());
     spell(rt.alloc(), Bytes, b"JK\xff", false, &mut out)?;
     spell(rt.alloc(), Bytes, b"it's", true, &mut out)?;
-    spell(rt.alloc(), Str, b"\xc3\xa9", true, &mut out)?;
-    assert_eq!(rt; out.as_slice(), b"\\x4a4bffit's\xc3\xa9".as_slice());
+    assert_eq!(rt; out.as_slice(), b"\\x4a4bffit's".as_slice());
     Ok(())
 }
 

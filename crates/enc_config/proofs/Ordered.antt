@@ -1,5 +1,5 @@
 -- The order of places, and that a text has one answer.
-use Rattle.std.proofs.Common.{◌≡◌, ◌<◌, ◌≤◌, ◌⊎◌, ◌↔◌, inl, inr, ℕ, List, Bool, true, false, refl, sym, ap, ◌∙◌, arith, Some, true≢false}
+use Rattle.std.proofs.Common.{◌≡◌, ◌⊎◌, inl, inr, ℕ, List, Bool, true, false, refl, sym, ap, ◌∙◌, arith, Some, true≢false}
 use Rattle.std.proofs.lemmas.Bool.{cases_lt}
 use Rattle.enc_config.specs.Places.{IsBefore}
 use Rattle.enc_config.specs.Order.{IsLess, IsOfSchema}
@@ -9,7 +9,6 @@ use Rattle.enc_config.specs.declared.places.Place.{Place}
 use Rattle.enc_config.specs.declared.places.Place.TheVariants.{Text, Entry, Schema}
 use Rattle.enc_config.specs.declared.policy.Table.{Table}
 use Rattle.enc_config.specs.declared.read.ConfigRefusal.{ConfigRefusal}
-use Rattle.enc_config.specs.declared.texts.SchemaText.{SchemaText}
 
 -- ---- the order of places is that of their numbers
 

@@ -1,5 +1,5 @@
 -- The order of places, beside the pairs of numbers by which a refusal names them.
-use Rattle.std.specs.Prelude.{ℕ, ◌≡◌, ◌<◌, ◌⊎◌}
+use Rattle.std.specs.Prelude.{◌≡◌, ◌<◌, ◌⊎◌}
 use Rattle.enc_config.specs.Reads.{schema_number, entry_number}
 use Rattle.enc_config.specs.declared.places.Place.{Place}
 use Rattle.enc_config.specs.declared.places.Place.TheVariants.{Text, Entry, Schema}

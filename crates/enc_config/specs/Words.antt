@@ -1,5 +1,5 @@
 -- The words of a policy.
-use Rattle.std.specs.Prelude.{ℕ, List, [], ◌∷◌, Bool, true, false, ◌&&◌, ◌||◌, if◌then◌else◌, Option, Some, None, unwrap_or, codes, length, nat_le, bytes_eq}
+use Rattle.std.specs.Prelude.{ℕ, List, [], ◌∷◌, Bool, false, ◌&&◌, ◌||◌, if◌then◌else◌, Option, Some, None, unwrap_or, codes, length, nat_le, bytes_eq}
 use Rattle.std.specs.List.{list_all, list_any}
 use Rattle.acra_base.specs.Client.{is_id_byte}
 use Rattle.acra_base.specs.declared.kind.ValueKind.{ValueKind}

@@ -1,0 +1,14 @@
+pub mod Members
+pub mod Texts
+pub mod Places
+pub mod Words
+pub mod Rules
+pub mod Found
+pub mod Defaults
+pub mod Sizes
+pub mod Look
+pub mod Policies
+pub mod Reads
+pub mod Clients
+pub mod FoundClients
+pub mod Order

@@ -1,0 +1,8 @@
+use Rattle.std.proofs.Common.{◌∙◌, ap, sym, subst, arith, ◌≡◌, ◌≤◌, List, ℕ, length}
+use Rattle.sql_tokens.specs.Comments.{IsText}
+use Rattle.sql_tokens.specs.Steps.{TakesQuoted}
+use Rattle.sql_tokens.proofs.Fronts.{text_open, text_bad, text_reads}
+use Rattle.sql_tokens.proofs.cursor.Cursor.text.Goals as goal
+
+pub returns-then-not-is_text : goal.returns-then-not-is_text
+returns-then-not-is_text c = let h = rw c.in-Some.is at c.in_ok-content.ensures.found in text_bad _ c.requires.some c.requires.starts _ _ h (λ text. let no = c.if-not-is_text.ensures.1 (subst IsText (sym c.as_slice.ensures) text) in cc)

@@ -1,6 +1,6 @@
 -- Words, numbers, parameters and texts in quotes at the front of a text.
-use Rattle.std.proofs.Common.{◌≡◌, ℕ, ◌<◌, ◌≤◌, ◌^◌, nat_eq, ◌==◌, Bool, true, false, IsTrue, ◌↔◌, List, [], ◌∷◌, ◌++◌, length, map, get_or, append_assoc, append-nil, ap, subst, ◌∙◌, refl, sym, arith}
-use Rattle.std.specs.Prelude.{Option, Some, None, not, ◌&&◌, nat_le}
+use Rattle.std.proofs.Common.{◌≡◌, ℕ, ◌<◌, ◌≤◌, ◌^◌, nat_eq, ◌==◌, Bool, true, false, List, [], ◌∷◌, ◌++◌, length, map, get_or, append-nil, ap, subst, ◌∙◌, refl, sym, arith}
+use Rattle.std.specs.Prelude.{Option, Some, not}
 use Rattle.std.specs.List.{list_all}
 use Rattle.std.proofs.lemmas.Bool.Decides.{nat_tests}
 use Rattle.std.proofs.lemmas.Grind.{common_steps}
@@ -12,14 +12,14 @@ use Rattle.sql_tokens.specs.declared.token.Token.TheVariants as t
 use Rattle.sql_tokens.specs.declared.runs.Run.TheVariants as run
 use Rattle.sql_tokens.specs.Classes.{class_of, Stops, Starts, is_digit, begins_word, goes_on_word, folded, number_from}
 use Rattle.sql_tokens.specs.Comments.{IsText}
-use Rattle.sql_tokens.specs.Tokens.{IsWord, IsNumber, IsQuoted, IsParameter, IsPiece, IsToken, doubled}
+use Rattle.sql_tokens.specs.Tokens.{IsQuoted, IsPiece, doubled}
 use Rattle.sql_tokens.specs.Runs.{run_test, NumbersParameter}
 use Rattle.sql_tokens.specs.Lexing.{BeginsNone}
 use Rattle.sql_tokens.specs.Steps.{Takes, TakesQuoted, IsUnclosed, EatsQuote, word_token}
 use Rattle.sql_tokens.proofs.Quoting.{one_content, unclosed, content_now}
 use Rattle.sql_tokens.proofs.Running.{one_run, and_left, and_right}
 use Rattle.sql_tokens.proofs.Pieces.{Of, inverted, of_word, class_word, class_digit, class_parameter}
-use Rattle.sql_tokens.proofs.Unique.{one_quoted, quoted_text}
+use Rattle.sql_tokens.proofs.Unique.{quoted_text}
 
 -- what starts with a byte of the test
 starts_at : (test : ℕ → Bool) (text front rest : List ℕ) → text ≡ front ++ rest → 1 ≤ length text → test (get_or text 0 0) ≡ true → Stops test rest → Starts test front

@@ -1,10 +1,9 @@
 -- Signs, comments and spaces at the front of a text.
-use Rattle.std.proofs.Common.{◌≡◌, ℕ, ◌-◌, ◌<◌, ◌≤◌, nat_eq, ◌==◌, ◌&&◌, Bool, true, false, List, [], ◌∷◌, ◌++◌, length, take, drop, get_or, ap, subst, ◌∙◌, refl, sym, arith}
-use Rattle.std.specs.Prelude.{Option, Some, None, is_some}
+use Rattle.std.proofs.Common.{◌≡◌, ℕ, ◌-◌, ◌≤◌, true, false, List, [], ◌∷◌, ◌++◌, length, take, drop, get_or, ap, subst, ◌∙◌, refl, sym, arith}
+use Rattle.std.specs.Prelude.{Option, Some, None}
 use Rattle.std.specs.List.{list_all}
 use Rattle.std.proofs.lemmas.Grind.{common_steps}
 use Rattle.std.proofs.lemmas.List.{take-append-drop}
-use Rattle.sql_tokens.specs.declared.class.Class.{Class}
 use Rattle.sql_tokens.specs.declared.class.Class.TheVariants as class
 use Rattle.sql_tokens.specs.declared.sign.Sign.{Sign}
 use Rattle.sql_tokens.specs.declared.token.Token.{Token}
@@ -17,7 +16,7 @@ use Rattle.sql_tokens.specs.Lexing.{BeginsNone}
 use Rattle.sql_tokens.specs.Steps.{Takes}
 use Rattle.sql_tokens.proofs.Running.{one_run}
 use Rattle.sql_tokens.proofs.Pieces.{IsMark, class_space}
-use Rattle.sql_tokens.proofs.Unique.{head_same, tail_same, some_same, line_nested, line_one, line_two, nested_one, nested_two, one_two}
+use Rattle.sql_tokens.proofs.Unique.{tail_same, some_same, line_nested, line_one, line_two, nested_one, nested_two, one_two}
 use Rattle.sql_tokens.proofs.Fronts.{of}
 
 -- behind "--"

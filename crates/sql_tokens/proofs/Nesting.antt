@@ -1,7 +1,6 @@
 -- Comments, two bytes at a time.
-use Rattle.std.proofs.Common.{◌≡◌, ℕ, suc, zero, ◌+◌, ◌-◌, ◌<◌, ◌≤◌, ◌==◌, ◌&&◌, Bool, true, false, List, [], ◌∷◌, length, drop, get_or, ap, subst, ◌∙◌, refl, sym, arith, drop-cons, length-drop}
-use Rattle.std.specs.Prelude.{Option, Some, None}
-use Rattle.std.proofs.lemmas.List.{drop_all}
+use Rattle.std.proofs.Common.{◌≡◌, ℕ, suc, zero, ◌+◌, ◌-◌, ◌<◌, ◌≤◌, ◌==◌, ◌&&◌, true, false, List, [], ◌∷◌, length, drop, get_or, ap, ◌∙◌, refl, sym, arith, drop-cons, length-drop}
+use Rattle.std.specs.Prelude.{Some, None}
 use Rattle.sql_tokens.specs.Comments.{after_comments}
 
 -- the next two bytes

@@ -1,5 +1,5 @@
 -- What a piece is, by its first byte.
-use Rattle.std.proofs.Common.{◌≡◌, ◌≢◌, ℕ, ◌<◌, ◌≤◌, ◌^◌, nat_eq, ◌==◌, ◌&&◌, Bool, true, false, List, [], ◌∷◌, ◌++◌, length, get_or, ap, subst, ◌∙◌, refl, sym, arith, inl, inr}
+use Rattle.std.proofs.Common.{◌≡◌, ℕ, ◌<◌, ◌≤◌, ◌^◌, ◌==◌, Bool, true, false, List, [], ◌∷◌, ◌++◌, length, get_or, ap, subst, refl, sym, arith, inl, inr}
 use Rattle.std.specs.Prelude.{Option, Some, None, if◌then◌else◌}
 use Rattle.std.specs.List.{list_all}
 use Rattle.std.proofs.lemmas.Bool.Decides.{nat_tests, eqb_tells}
@@ -9,7 +9,7 @@ use Rattle.sql_tokens.specs.declared.sign.Sign.{Sign}
 use Rattle.sql_tokens.specs.declared.keyword.Keyword.{Keyword}
 use Rattle.sql_tokens.specs.declared.token.Token.{Token}
 use Rattle.sql_tokens.specs.declared.token.Token.TheVariants as t
-use Rattle.sql_tokens.specs.Classes.{class_of, Stops, Starts, is_space, is_digit, begins_word, goes_on_word}
+use Rattle.sql_tokens.specs.Classes.{class_of, Stops, is_space, is_digit, begins_word}
 use Rattle.sql_tokens.specs.Keywords.{keyword_of}
 use Rattle.sql_tokens.specs.Signs.{IsSign, sign_of_one, sign_of_two, joins}
 use Rattle.sql_tokens.specs.Comments.{IsGap, IsText, after_comments, not_newline}

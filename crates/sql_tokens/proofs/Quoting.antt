@@ -1,5 +1,5 @@
 -- A text in quotes, and what follows it, are fixed by the bytes.
-use Rattle.std.proofs.Common.{◌≡◌, ℕ, ◌⊎◌, nat_eq, ◌==◌, Bool, true, false, inl, inr, List, [], ◌∷◌, ◌++◌, ap, subst, ◌∙◌, refl, sym, arith, append_assoc}
+use Rattle.std.proofs.Common.{◌≡◌, ℕ, ◌⊎◌, nat_eq, ◌==◌, true, false, inl, inr, List, [], ◌∷◌, ◌++◌, ap, subst, ◌∙◌, refl, sym, arith, append_assoc}
 use Rattle.std.specs.Prelude.{if◌then◌else◌}
 use Rattle.std.specs.List.{list_all}
 use Rattle.std.proofs.lemmas.List.{append-nil}

@@ -1,9 +1,8 @@
 -- Tokens. Words and digits are read as far as they go; a quote inside quotes is written twice; a name has 1 to 63 bytes.
-use Rattle.std.specs.Prelude.{ℕ, ◌≡◌, ◌≤◌, ◌<◌, ◌^◌, nat_eq, ◌==◌, Bool, true, false, not, if◌then◌else◌, List, [], ◌∷◌, ◌++◌, map, length, Option, Some, None}
+use Rattle.std.specs.Prelude.{ℕ, ◌≡◌, ◌≤◌, ◌<◌, ◌^◌, nat_eq, ◌==◌, true, false, if◌then◌else◌, List, [], ◌∷◌, ◌++◌, map, length, Option, Some, None}
 use Rattle.std.specs.List.{list_all, flat_map}
 use Rattle.sql_tokens.specs.declared.token.Token.{Token}
 use Rattle.sql_tokens.specs.declared.token.Token.TheVariants as t
-use Rattle.sql_tokens.specs.declared.token.Placed.{Placed}
 use Rattle.sql_tokens.specs.Classes.{Stops, Starts, is_digit, begins_word, goes_on_word, folded, number_from}
 use Rattle.sql_tokens.specs.Keywords.{keyword_of}
 use Rattle.sql_tokens.specs.Signs.{IsSign}

@@ -1,4 +1,4 @@
-use Rattle.std.proofs.Common.{◌∙◌, sym, ap, arith, drop, ◌+◌, ◌-◌}
+use Rattle.std.proofs.Common.{◌∙◌, sym, arith}
 use Rattle.sql_tokens.proofs.Nesting.{closes, opens, goes_on, never_closed, all_closed}
 use Rattle.sql_tokens.proofs.cursor.nested_len.Goals as goal
 

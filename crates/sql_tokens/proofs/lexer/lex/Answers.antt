@@ -1,6 +1,6 @@
-use Rattle.std.proofs.Common.{◌∷◌, ◌++◌, [], sym, ◌∙◌, ap, arith, length, ◌-◌, refl}
+use Rattle.std.proofs.Common.{◌∷◌, ◌++◌, [], sym, ◌∙◌, ap, length, ◌-◌}
 use Rattle.std.specs.Prelude.{Some, None}
-use Rattle.sql_tokens.proofs.Whole.{none_yet, shorter, one_more, whole_end, whole_bad}
+use Rattle.sql_tokens.proofs.Whole.{one_more, whole_end, whole_bad}
 use Rattle.std.proofs.lemmas.List.{append-nil}
 use Rattle.sql_tokens.proofs.lexer.lex.Goals as goal
 

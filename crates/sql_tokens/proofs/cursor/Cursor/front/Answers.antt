@@ -1,5 +1,5 @@
 use Rattle.sql_tokens.proofs.Marks.{gap_takes}
-use Rattle.std.proofs.Common.{sym, ◌∙◌}
+use Rattle.std.proofs.Common.{sym}
 use Rattle.sql_tokens.proofs.cursor.Cursor.front.Goals as goal
 
 pub returns-in-Space-clause-reads : goal.returns-in-Space-clause-reads

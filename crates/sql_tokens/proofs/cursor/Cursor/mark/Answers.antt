@@ -1,5 +1,5 @@
 use Rattle.sql_tokens.proofs.Marks.{pair_takes}
-use Rattle.std.proofs.Common.{sym, ◌∙◌}
+use Rattle.std.proofs.Common.{sym}
 use Rattle.sql_tokens.proofs.cursor.Cursor.mark.Goals as goal
 
 pub returns-in-Some : goal.returns-in-Some

@@ -1,7 +1,6 @@
-use Rattle.std.proofs.Common.{◌∙◌, ap, sym, subst, arith, ◌≡◌, ◌≤◌, List, ℕ, length}
+use Rattle.std.proofs.Common.{sym, subst, arith}
 use Rattle.sql_tokens.specs.Comments.{IsText}
-use Rattle.sql_tokens.specs.Steps.{TakesQuoted}
-use Rattle.sql_tokens.proofs.Fronts.{not_empty_list, name_open, name_bad, name_reads, text_name}
+use Rattle.sql_tokens.proofs.Fronts.{not_empty_list, name_bad}
 use Rattle.sql_tokens.proofs.cursor.Cursor.name.Goals as goal
 
 pub returns-then-is_empty : goal.returns-then-is_empty

@@ -1,6 +1,6 @@
 use Rattle.sql_tokens.proofs.Quoting.{content_on}
 use Rattle.sql_tokens.proofs.Fronts.{quoted_ends, quoted_open}
-use Rattle.std.proofs.Common.{sym, ◌∙◌, ap, subst}
+use Rattle.std.proofs.Common.{◌∙◌}
 use Rattle.sql_tokens.proofs.cursor.Cursor.quoted.Goals as goal
 
 pub returns-then-not-eat_quote-clause-none : goal.returns-then-not-eat_quote-clause-none

@@ -1,5 +1,5 @@
 use Rattle.sql_tokens.proofs.Marks.{sign_takes}
-use Rattle.std.proofs.Common.{sym, ◌∙◌}
+use Rattle.std.proofs.Common.{sym}
 use Rattle.sql_tokens.proofs.cursor.Cursor.sign.Goals as goal
 
 pub returns-in-Some : goal.returns-in-Some

@@ -1,7 +1,6 @@
-use Rattle.std.proofs.Common.{◌∙◌, ap, sym, subst, arith, ◌≡◌, ◌≤◌, List, ℕ, length}
+use Rattle.std.proofs.Common.{sym, subst}
 use Rattle.sql_tokens.specs.Comments.{IsText}
-use Rattle.sql_tokens.specs.Steps.{TakesQuoted}
-use Rattle.sql_tokens.proofs.Fronts.{text_open, text_bad, text_reads}
+use Rattle.sql_tokens.proofs.Fronts.{text_bad}
 use Rattle.sql_tokens.proofs.cursor.Cursor.text.Goals as goal
 
 pub returns-then-not-is_text : goal.returns-then-not-is_text

@@ -1,6 +1,6 @@
-use Rattle.std.proofs.Common.{◌∙◌, ap, sym, subst}
+use Rattle.std.proofs.Common.{sym, subst}
 use Rattle.std.specs.Prelude.{Some}
-use Rattle.sql_tokens.specs.Steps.{Takes, word_token}
+use Rattle.sql_tokens.specs.Steps.{Takes}
 use Rattle.sql_tokens.proofs.Fronts.{word_reads, word_bad, word_name}
 use Rattle.sql_tokens.proofs.cursor.Cursor.word.Goals as goal
 

@@ -1,3 +1,5 @@
 pub mod Rendering
 pub mod Joining
 pub mod Layers
+pub mod Deriving
+pub mod Wholes

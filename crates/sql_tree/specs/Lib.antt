@@ -5,3 +5,5 @@ pub mod Spelling
 pub mod Shapes
 pub mod Canonical
 pub mod Writing
+pub mod WellFormed
+pub mod Laws

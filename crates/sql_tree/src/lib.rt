@@ -2,10 +2,12 @@
 #![tactic(auto)]
 
 mod condition;
+mod laws;
 mod printer;
 mod statement;
 mod writer;
 
 pub use condition::{Cond, Op, Operand};
+pub use laws::canonical_tokens_spell;
 pub use printer::print;
 pub use statement::{Item, Items, OrderKey, SetPair, Statement};

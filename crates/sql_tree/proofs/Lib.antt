@@ -3,3 +3,5 @@ pub mod Joining
 pub mod Layers
 pub mod Deriving
 pub mod Wholes
+pub mod Lexed
+pub mod Reading

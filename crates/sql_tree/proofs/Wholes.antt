@@ -26,6 +26,10 @@ use Rattle.sql_tree.specs.WellFormed.{is_value, is_setting, has_one, is_shaped, 
 use Rattle.sql_tree.proofs.Deriving.{both_true, as_value, plain, plain_value, none_before, each, derived}
 use Rattle.sql_tree.specs.Spelling.{IsQualified, Spells}
 use Rattle.sql_tree.specs.Laws.{IsStatement}
+use Rattle.sql_tree.specs.Spelling.{TextSpells}
+use Rattle.sql_tree.specs.Canonical.{canon}
+use Rattle.sql_tree.proofs.Lexed.{Read, read_whole}
+use Rattle.sql_tree.proofs.Reading.{good_statement}
 
 spelled : List ℕ → Spelled
 spelled n = record { name = n; quoted = true }
@@ -256,3 +260,8 @@ unfolding AsText
 tokens_spell x h =
     let b = as_text x h.grammatical in
     record { by = record { body = b.0; semicolon = false }; derives = b.2; is = sym b.1; qualified = b.3; gapless = h.gapless; settable = h.settable }
+
+pub text_spells : (x : Statement) → IsStatement x → TextSpells (canon x) x
+text_spells x h =
+    let r = read_whole (printed x) h.possible (good_statement x) in
+    record { placed = r.placed; lexes = r.lexes; spells = subst (λ (ts : List Token). Spells ts x) (sym r.is) (tokens_spell x h) }

@@ -5,7 +5,8 @@ use Rattle.sql_tokens.specs.declared.token.Token.{Token}
 use Rattle.sql_tokens.specs.Tokens.{IsToken}
 use Rattle.sql_tree.specs.declared.statement.Statement.{Statement}
 use Rattle.sql_tree.specs.Shapes.{printed}
-use Rattle.sql_tree.specs.Spelling.{Spells, IsGapless, IsSettable, parameters}
+use Rattle.sql_tree.specs.Canonical.{canon}
+use Rattle.sql_tree.specs.Spelling.{Spells, TextSpells, IsGapless, IsSettable, parameters}
 use Rattle.sql_tree.specs.WellFormed.{is_grammatical}
 
 -- some text is the token
@@ -20,6 +21,9 @@ pub record IsStatement (tree : Statement) : Type 0 where
   pub gapless : IsGapless (parameters tree)
   pub settable : IsSettable tree
   pub possible : AllByRecursion IsPossible (printed tree)
+
+abbrev pub CanonicalTextSpells : Type 0
+CanonicalTextSpells = (tree : Statement) → IsStatement tree → TextSpells (canon tree) tree
 
 abbrev pub CanonicalTokensSpell : Type 0
 CanonicalTokensSpell = (tree : Statement) → IsStatement tree → Spells (printed tree) tree

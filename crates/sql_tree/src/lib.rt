@@ -8,6 +8,6 @@ mod statement;
 mod writer;
 
 pub use condition::{Cond, Op, Operand};
-pub use laws::canonical_tokens_spell;
+pub use laws::{canonical_text_spells, canonical_tokens_spell};
 pub use printer::print;
 pub use statement::{Item, Items, OrderKey, SetPair, Statement};

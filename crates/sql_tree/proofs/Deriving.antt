@@ -1,6 +1,6 @@
 -- The canonical tokens of a condition are derived.
-use Rattle.std.proofs.Common.{◌≡◌, ℕ, suc, zero, pos, negsuc, Bool, true, false, ◌&&◌, List, [], ◌∷◌, ◌++◌, map, append-nil, refl, sym, ap, ◌∙◌, subst}
-use Rattle.std.specs.Prelude.{◌||◌, not, Option, Some, None}
+use Rattle.std.proofs.Common.{◌≡◌, ℕ, suc, pos, negsuc, Bool, true, false, ◌&&◌, List, [], ◌∷◌, ◌++◌, map, append-nil, refl, sym, ap, ◌∙◌, subst}
+use Rattle.std.specs.Prelude.{◌||◌, not, None}
 use Rattle.std.specs.List.{flat_map, list_all}
 use denote.Hole.Carrier
 use Rattle.sql_tokens.specs.declared.keyword.Keyword.TheVariants as word
@@ -15,12 +15,10 @@ use Rattle.sql_tree.specs.declared.condition.Cond.TheVariants as tree
 use Rattle.sql_tree.specs.declared.condition.Cond.TheOpen.{Cond-F}
 use Rattle.sql_tree.specs.declared.condition.Cond.TheViews.{roll-Cond}
 use Rattle.sql_tree.specs.declared.condition.Cond.TheFolds.{fold-roll-Cond, ind-Cond, map-Cond}
-use Rattle.sql_tree.specs.Parts.{Spelled, Column, Value, value_tokens, value_operand, Left, left_tokens, left_operand, left_qualifiers, op_token}
-use Rattle.sql_tree.specs.Parts as parts
+use Rattle.sql_tree.specs.Parts.{Column, Value, value_tokens, value_operand, Left, left_tokens, left_operand, left_qualifiers, op_token}
 use Rattle.sql_tree.specs.Conditions.{Cond, only, or, Conj, single, and, Neg, parens, test, Test, Side, side_tokens, side_operand, side_qualifiers, test_qualifiers, cond_qualifiers, conj_qualifiers, neg_qualifiers, test_tokens, test_tree, cond_tokens, conj_tokens, neg_tokens, or_of, and_of, cond_parts, conj_parts, neg_tree, cond_tree}
-use Rattle.sql_tree.specs.Conditions as conditions
 use Rattle.sql_tree.specs.Shapes.{Shape, shape, shape_step, child, joined, in_parens, commas, operand_shape, quoted}
-use Rattle.sql_tree.specs.WellFormed.{is_left, is_value, has_one, has_two, is_shaped, shaped_step}
+use Rattle.sql_tree.specs.WellFormed.{is_left, is_value, has_one, is_shaped, shaped_step}
 
 pub both_true : (a b : Bool) → (a && b) ≡ true → (a ≡ true) × (b ≡ true)
 both_true true b e = (refl, e)

@@ -1,11 +1,11 @@
 -- Parts with a token between them, one after the other.
-use Rattle.std.proofs.Common.{◌≡◌, ℕ, suc, zero, ◌+◌, ◌-◌, ◌<◌, ◌≤◌, ◌==◌, Bool, true, false, List, [], ◌∷◌, ◌++◌, length, take, drop, get_or, map, append_assoc, append-nil, refl, sym, ap, ◌∙◌, subst, arith}
-use Rattle.std.specs.Prelude.{if◌then◌else◌, not}
+use Rattle.std.proofs.Common.{◌≡◌, ℕ, ◌+◌, ◌-◌, ◌<◌, ◌≤◌, ◌==◌, true, false, List, [], ◌∷◌, ◌++◌, length, take, drop, get_or, map, append_assoc, append-nil, refl, sym, ap, ◌∙◌, arith}
+use Rattle.std.specs.Prelude.{not}
 use Rattle.std.specs.List.{flat_map}
 use Rattle.std.proofs.lemmas.Grind.{common_steps}
 use Rattle.std.proofs.lemmas.Bool.Decides.{nat_tests}
 use Rattle.sql_tokens.specs.declared.token.Token.{Token}
-use Rattle.sql_tree.specs.Shapes.{joined, child, Shape, in_parens}
+use Rattle.sql_tree.specs.Shapes.{joined, child, Shape}
 use Rattle.sql_tree.specs.Writing.{token_if}
 use Rattle.sql_tokens.specs.declared.sign.Sign.TheVariants as sign
 use Rattle.sql_tokens.specs.declared.token.Token.TheVariants as t

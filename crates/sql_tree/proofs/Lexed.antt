@@ -1,11 +1,9 @@
 -- Canonical text is read as the tokens that it was written from.
-use Rattle.std.proofs.Common.{◌≡◌, ℕ, suc, zero, ◌+◌, ◌-◌, ◌*◌, ◌/◌, ◌%◌, ◌<◌, ◌≤◌, ◌^◌, nat_eq, ◌==◌, Bool, true, false, ◌&&◌, List, [], ◌∷◌, ◌++◌, map, length, append_assoc, append-nil, refl, sym, ap, ◌∙◌, subst, arith}
-use Rattle.std.specs.Prelude.{◌||◌, if◌then◌else◌, not, Option, Some, None, codes, is_some}
-use Rattle.std.specs.List.{list_all, flat_map, AllByRecursion}
+use Rattle.std.proofs.Common.{◌≡◌, ℕ, ◌+◌, ◌-◌, ◌*◌, ◌/◌, ◌%◌, ◌<◌, ◌≤◌, ◌^◌, nat_eq, ◌==◌, Bool, true, false, List, [], ◌∷◌, ◌++◌, length, append_assoc, append-nil, refl, sym, ap, ◌∙◌, subst, arith}
+use Rattle.std.specs.Prelude.{◌||◌, if◌then◌else◌, not, Some, None, codes}
+use Rattle.std.specs.List.{list_all, AllByRecursion}
 use Rattle.std.specs.Fmt.{decimal}
-use Rattle.std.specs.Cmp.Lexicographic.{pointwise}
 use Rattle.std.proofs.lemmas.Fmt.{decimal_by_steps_wide}
-use Rattle.std.proofs.lemmas.Grind.{common_steps}
 use Rattle.std.proofs.lemmas.Bool.Decides.{nat_tests}
 use Rattle.std.proofs.lemmas.List.Folds.{list_all-append}
 use Rattle.sql_tokens.specs.declared.keyword.Keyword.{Keyword}
@@ -15,13 +13,12 @@ use Rattle.sql_tokens.specs.declared.sign.Sign.TheVariants as sign
 use Rattle.sql_tokens.specs.declared.token.Token.{Token}
 use Rattle.sql_tokens.specs.declared.token.Token.TheVariants as t
 use Rattle.sql_tokens.specs.declared.token.Placed.{Placed}
-use Rattle.sql_tokens.specs.Classes.{Stops, Starts, is_digit, begins_word, goes_on_word, folded, number_from, is_space}
-use Rattle.sql_tokens.specs.Keywords.{keyword_of}
-use Rattle.sql_tokens.specs.Signs.{IsSign, sign_of_one, sign_of_two, joins}
-use Rattle.sql_tokens.specs.Comments.{IsGap, IsText}
-use Rattle.sql_tokens.specs.Tokens.{IsWord, IsNumber, IsQuoted, IsParameter, IsToken, doubled}
+use Rattle.sql_tokens.specs.Classes.{Stops, Starts, is_digit, goes_on_word, number_from}
+use Rattle.sql_tokens.specs.Signs.{IsSign, joins}
+use Rattle.sql_tokens.specs.Comments.{IsGap}
+use Rattle.sql_tokens.specs.Tokens.{IsNumber, IsToken}
 use Rattle.sql_tokens.specs.Lexing.{Lexes}
-use Rattle.sql_tree.specs.Canonical.{keyword_text, sign_text, quotes, token_text, is_tight_after, is_tight_before, rendered}
+use Rattle.sql_tree.specs.Canonical.{keyword_text, sign_text, token_text, is_tight_after, is_tight_before, rendered}
 use Rattle.sql_tree.specs.Spelling.{tokens_of}
 use Rattle.sql_tree.specs.Laws.{IsPossible}
 

@@ -1,8 +1,7 @@
 -- The canonical tokens of a statement can be read.
-use Rattle.std.proofs.Common.{◌≡◌, ℕ, suc, pos, negsuc, Bool, true, false, List, [], ◌∷◌, ◌++◌, map, append-nil, refl, sym, ap, ◌∙◌, subst}
+use Rattle.std.proofs.Common.{ℕ, suc, pos, negsuc, Bool, true, false, List, [], ◌∷◌, ◌++◌, map, refl, sym, subst}
 use Rattle.std.specs.Prelude.{Option, Some, None, codes, if◌then◌else◌}
 use Rattle.std.specs.List.{flat_map}
-use denote.Hole.Carrier
 use Rattle.sql_tokens.specs.declared.keyword.Keyword.{Keyword}
 use Rattle.sql_tokens.specs.declared.keyword.Keyword.TheVariants as word
 use Rattle.sql_tokens.specs.declared.sign.Sign.TheVariants as sign
@@ -13,7 +12,6 @@ use Rattle.sql_tree.specs.declared.condition.Op.TheVariants as op
 use Rattle.sql_tree.specs.declared.condition.Operand.{Operand}
 use Rattle.sql_tree.specs.declared.condition.Operand.TheVariants as operand
 use Rattle.sql_tree.specs.declared.condition.Cond.{Cond}
-use Rattle.sql_tree.specs.declared.condition.Cond.TheVariants as tree
 use Rattle.sql_tree.specs.declared.condition.Cond.TheOpen.{Cond-F}
 use Rattle.sql_tree.specs.declared.condition.Cond.TheViews.{roll-Cond}
 use Rattle.sql_tree.specs.declared.condition.Cond.TheFolds.{fold-roll-Cond, ind-Cond, map-Cond}

@@ -1,7 +1,6 @@
 -- Tokens written one after the other.
-use Rattle.std.proofs.Common.{◌≡◌, ℕ, Bool, true, false, List, [], ◌∷◌, ◌++◌, append_assoc, append-nil, refl, sym, ap, ◌∙◌, subst}
+use Rattle.std.proofs.Common.{◌≡◌, ℕ, Bool, List, [], ◌∷◌, ◌++◌, append_assoc, append-nil, refl, sym, ap, ◌∙◌, subst}
 use Rattle.std.specs.Prelude.{if◌then◌else◌, ◌||◌}
-use Rattle.std.specs.List.{flat_map}
 use Rattle.sql_tokens.specs.declared.token.Token.{Token}
 use Rattle.sql_tree.specs.Canonical.{rendered, is_tight_after, is_tight_before, token_text}
 use Rattle.sql_tree.specs.Writing.{State, Wrote, WrotePiece, tight_after}

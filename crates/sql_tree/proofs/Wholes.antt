@@ -1,5 +1,5 @@
 -- The canonical tokens of a statement are derived.
-use Rattle.std.proofs.Common.{◌≡◌, ℕ, suc, pos, negsuc, ◌<◌, ◌^◌, Bool, true, false, ◌&&◌, nat_lt, List, [], ◌∷◌, ◌++◌, map, append-nil, refl, sym, ap, ◌∙◌, subst, arith}
+use Rattle.std.proofs.Common.{◌≡◌, ℕ, suc, pos, negsuc, Bool, true, false, ◌&&◌, List, [], ◌∷◌, ◌++◌, map, append-nil, refl, sym, ap, ◌∙◌, subst, arith}
 use Rattle.std.specs.Prelude.{Option, Some, None, Contains, option_map, codes, if◌then◌else◌}
 use Rattle.std.specs.List.{flat_map, list_all}
 use Rattle.std.proofs.lemmas.Bool.Decides.{nat_tests}
@@ -19,16 +19,16 @@ use Rattle.sql_tree.specs.declared.statement.SetPair.{SetPair}
 use Rattle.sql_tree.specs.declared.statement.Statement.{Statement}
 use Rattle.sql_tree.specs.declared.statement.Statement.TheVariants as statement
 use Rattle.sql_tree.specs.Parts.{optional, listed, Spelled, name_tokens, qualifiers, Value, value_tokens, value_operand}
-use Rattle.sql_tree.specs.Conditions.{Cond, cond_tree, cond_tokens, cond_qualifiers}
-use Rattle.sql_tree.specs.Grammar.{Item, item_tree, item_tokens, label_name, label_tokens, Items, items_tree, items_tokens, items_qualifiers, Direction, Key, key_tree, key_tokens, Some1, all_of, order_tokens, Bound, where_tokens, names_tokens, row_tokens, Pair, pair_tree, pair_tokens, Setting, setting_tokens, setting_operand, Select, Body, body_tree, body_tokens, body_qualifiers, Text, text_tree, text_tokens}
-use Rattle.sql_tree.specs.Shapes.{quoted, operand_shape, commas, in_parens, shape, label_shape, item_shape, items_shape, key_shape, order_shape, bound_shape, where_shape, pair_shape, row_shape, printed}
-use Rattle.sql_tree.specs.WellFormed.{is_value, is_setting, has_one, is_shaped, all_shaped, is_row, is_bound, has_items, has_names, is_grammatical}
+use Rattle.sql_tree.specs.Conditions.{Cond, cond_tree, cond_qualifiers}
+use Rattle.sql_tree.specs.Grammar.{Item, item_tree, item_tokens, label_name, label_tokens, Items, items_tree, items_tokens, items_qualifiers, Direction, Key, key_tree, key_tokens, Some1, all_of, order_tokens, Bound, where_tokens, names_tokens, row_tokens, Pair, pair_tree, pair_tokens, Setting, setting_tokens, setting_operand, Body, body_tree, body_tokens, body_qualifiers, text_tree, text_tokens}
+use Rattle.sql_tree.specs.Shapes.{quoted, operand_shape, commas, in_parens, label_shape, item_shape, items_shape, key_shape, order_shape, bound_shape, where_shape, pair_shape, row_shape, printed}
+use Rattle.sql_tree.specs.WellFormed.{is_value, is_setting, has_one, all_shaped, is_row, is_bound, has_items, has_names, is_grammatical}
 use Rattle.sql_tree.proofs.Deriving.{both_true, as_value, plain, plain_value, none_before, each, derived}
 use Rattle.sql_tree.specs.Spelling.{IsQualified, Spells}
 use Rattle.sql_tree.specs.Laws.{IsStatement}
 use Rattle.sql_tree.specs.Spelling.{TextSpells}
 use Rattle.sql_tree.specs.Canonical.{canon}
-use Rattle.sql_tree.proofs.Lexed.{Read, read_whole}
+use Rattle.sql_tree.proofs.Lexed.{read_whole}
 use Rattle.sql_tree.proofs.Reading.{good_statement}
 
 spelled : List ℕ → Spelled

@@ -1,6 +1,6 @@
 -- The canonical text: keywords in upper case, names in quotes, one space between tokens but before ")" and "," and behind
 -- "(", a number's sign, COUNT and substr.
-use Rattle.std.specs.Prelude.{ℕ, pos, ◌<◌, ◌^◌, ◌≡◌, nat_eq, Bool, true, false, ◌||◌, if◌then◌else◌, List, [], ◌∷◌, ◌++◌, codes, Option, Some, None}
+use Rattle.std.specs.Prelude.{ℕ, nat_eq, Bool, true, false, ◌||◌, if◌then◌else◌, List, [], ◌∷◌, ◌++◌, codes}
 use Rattle.std.specs.Fmt.{decimal}
 use Rattle.std.specs.Cmp.Lexicographic.{pointwise}
 use Rattle.sql_tokens.specs.declared.keyword.Keyword.{Keyword}
@@ -9,8 +9,7 @@ use Rattle.sql_tokens.specs.declared.sign.Sign.{Sign}
 use Rattle.sql_tokens.specs.declared.sign.Sign.TheVariants as sign
 use Rattle.sql_tokens.specs.declared.token.Token.{Token}
 use Rattle.sql_tokens.specs.declared.token.Token.TheVariants as t
-use Rattle.sql_tokens.specs.Tokens.{IsToken, doubled}
-use Rattle.sql_tree.specs.declared.condition.Cond.{Cond}
+use Rattle.sql_tokens.specs.Tokens.{doubled}
 use Rattle.sql_tree.specs.declared.statement.Statement.{Statement}
 use Rattle.sql_tree.specs.Shapes.{printed}
 

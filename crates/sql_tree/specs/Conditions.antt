@@ -12,7 +12,6 @@ use Rattle.sql_tokens.specs.declared.token.Token.{Token}
 use Rattle.sql_tokens.specs.declared.token.Token.TheVariants as t
 use Rattle.sql_tree.specs.declared.condition.Op.{Op}
 use Rattle.sql_tree.specs.declared.condition.Operand.{Operand}
-use Rattle.sql_tree.specs.declared.condition.Operand.TheVariants as operand
 use Rattle.sql_tree.specs.declared.condition.Cond.TheVariants as tree
 use Rattle.sql_tree.specs.declared.condition.Cond as trees
 use Rattle.sql_tree.specs.Parts.{listed, Column, column_tokens, column_name, qualifiers, Value, value_tokens, value_operand, Left, left_tokens, left_operand, left_qualifiers, op_token}

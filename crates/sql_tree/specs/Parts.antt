@@ -3,7 +3,7 @@
 --     column = [ name "." ] name
 --     value  = string | [ "+" | "-" ] number | NULL | parameter
 --     left   = column | SUBSTR "(" column "," 1 "," 33 ")"
-use Rattle.std.specs.Prelude.{ℕ, pos, neg_ℤ, Bool, true, false, List, [], ◌∷◌, ◌++◌, codes, Option, Some, None}
+use Rattle.std.specs.Prelude.{ℕ, pos, neg_ℤ, Bool, false, List, [], ◌∷◌, ◌++◌, codes, Option, Some, None}
 use Rattle.std.specs.List.{flat_map}
 use Rattle.sql_tokens.specs.declared.keyword.Keyword.TheVariants as word
 use Rattle.sql_tokens.specs.declared.sign.Sign.TheVariants as sign

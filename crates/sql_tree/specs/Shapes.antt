@@ -1,7 +1,7 @@
 -- The canonical tokens of a statement. A child of AND, OR or NOT that is an AND or an OR stands in parentheses, another one
 -- does not; numbers have no sign but "-"; names stand in quotes.
-use Rattle.std.specs.Prelude.{ℕ, suc, zero, ◌+◌, max, pos, negsuc, ◌≡◌, nat_le, Bool, true, false, ◌&&◌, ◌||◌, not, if◌then◌else◌, List, [], ◌∷◌, ◌++◌, map, codes, length, Option, Some, None}
-use Rattle.std.specs.List.{list_all, flat_map}
+use Rattle.std.specs.Prelude.{ℕ, suc, ◌+◌, max, pos, negsuc, Bool, true, false, if◌then◌else◌, List, [], ◌∷◌, ◌++◌, codes, Option}
+use Rattle.std.specs.List.{flat_map}
 use Rattle.sql_tokens.specs.declared.keyword.Keyword.{Keyword}
 use Rattle.sql_tokens.specs.declared.keyword.Keyword.TheVariants as word
 use Rattle.sql_tokens.specs.declared.sign.Sign.TheVariants as sign

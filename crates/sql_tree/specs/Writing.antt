@@ -1,5 +1,5 @@
 -- What writing tokens does: bytes, and whether no space is to follow.
-use Rattle.std.specs.Prelude.{ℕ, ◌≡◌, Bool, true, false, ◌||◌, if◌then◌else◌, List, [], ◌∷◌, ◌++◌}
+use Rattle.std.specs.Prelude.{ℕ, ◌≡◌, Bool, ◌||◌, if◌then◌else◌, List, [], ◌∷◌, ◌++◌}
 use Rattle.sql_tokens.specs.declared.token.Token.{Token}
 use Rattle.sql_tree.specs.Canonical.{rendered, is_tight_after}
 

@@ -1,4 +1,4 @@
-use Rattle.std.proofs.Common.{ap, ◌∙◌, sym, map, take, arith, ◌≡◌, ◌∷◌, ◌++◌}
+use Rattle.std.proofs.Common.{ap, ◌∙◌, sym, map, ◌∷◌, ◌++◌}
 use Rattle.std.proofs.lemmas.List.{take_all}
 use Rattle.sql_tokens.specs.declared.token.Token.TheVariants as tok
 use Rattle.sql_tokens.specs.declared.sign.Sign.TheVariants as sign

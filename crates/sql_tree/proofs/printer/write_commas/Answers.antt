@@ -1,4 +1,3 @@
-use Rattle.std.proofs.Common.{subst, sym, refl}
 use Rattle.sql_tokens.specs.declared.token.Token.TheVariants as t
 use Rattle.sql_tokens.specs.declared.sign.Sign.TheVariants as sign
 use Rattle.sql_tree.proofs.Rendering.{next, said}

@@ -1,0 +1,9 @@
+pub mod Digits
+pub mod Quoting
+pub mod Running
+pub mod Pieces
+pub mod Unique
+pub mod Fronts
+pub mod Marks
+pub mod Nesting
+pub mod Whole

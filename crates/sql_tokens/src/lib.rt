@@ -1,0 +1,20 @@
+//! The tokens of the SQL profile: what a text is made of, before any grammar.
+#![tactic(auto)]
+
+mod class;
+mod cursor;
+mod keyword;
+mod laws;
+mod lexer;
+mod runs;
+mod sign;
+mod token;
+
+pub use keyword::Keyword;
+pub use laws::one_lexing;
+pub use lexer::{Lexed, lex};
+pub use sign::Sign;
+pub use token::{Placed, Token};
+
+#[cfg(test)]
+mod tests;

@@ -1,0 +1,5 @@
+use Rattle.sql_tree.proofs.Rendering.{next}
+use Rattle.sql_tree.proofs.printer.write_select.Goals as goal
+
+pub returns : goal.returns
+returns c = next c.in_ok-word.ensures (next c.in_ok-write_items.ensures (next c.in_ok-word-2.ensures (next c.in_ok-name.ensures (next c.in_ok-write_where.ensures (next c.in_ok-write_order.ensures (next c.in_ok-write_bound.ensures (c.in_ok-write_bound-2.ensures)))))))

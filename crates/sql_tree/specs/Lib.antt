@@ -1,0 +1,9 @@
+pub mod Parts
+pub mod Conditions
+pub mod Grammar
+pub mod Spelling
+pub mod Shapes
+pub mod Canonical
+pub mod Writing
+pub mod WellFormed
+pub mod Laws

@@ -1,0 +1,5 @@
+pub mod Items
+pub mod Names
+pub mod Keeping
+pub mod Edits
+pub mod Steps

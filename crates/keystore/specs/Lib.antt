@@ -1,0 +1,5 @@
+pub mod Lists
+pub mod Rings
+pub mod Answers
+pub mod Kept
+pub mod Places

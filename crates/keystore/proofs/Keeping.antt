@@ -9,8 +9,8 @@ use Rattle.keystore.specs.declared.phase.OldPhase.TheVariants as old_phases
 use Rattle.keystore.specs.declared.phase.OldKey.{OldKey}
 use Rattle.keystore.specs.declared.tickets.Ticket.{Ticket}
 use Rattle.keystore.specs.Lists.{first, edited, AscendsBy}
-use Rattle.keystore.specs.Rings.{ClientKeys, RingState, name_cmp, is_named, is_key, is_ticket, changed, rotated, marked, without, swept_key, released, abandoned, settled}
-use Rattle.keystore.specs.Answers.{new_client, with_client, with_rotation, with_lease, with_retired}
+use Rattle.keystore.specs.Rings.{ClientKeys, RingState, name_cmp, is_named, is_key, is_ticket, changed, rotated, marked, without, swept_key, swept_phase, released, abandoned, settled}
+use Rattle.keystore.specs.Answers.{new_client, with_client, with_rotation, with_lease, with_marked, with_retired}
 use Rattle.keystore.specs.Kept.{IsBefore, IsOlder, IsEarlier, ticket_of, IsPast, IsKeyed, IsKept}
 use Rattle.keystore.specs.Places.{Fits}
 use Rattle.keystore.proofs.Items.{all_weaker, all_push, ascends_push, all_edited, ascends_edited, length_edited, IsLike, Narrows}
@@ -146,3 +146,38 @@ kept_settled r n k = kept_out r n (λ t. if t.abandoned then [] else t ∷ []) (
 
 pub kept_abandoned : (r : RingState) (n : ℕ) → IsKept r → IsKept (record r { out = abandoned n r.out })
 kept_abandoned r n k = kept_out r n (λ t. record t { abandoned = true } ∷ []) (λ t. record { left = λ s h. h; right = λ s h. h }) (λ t h. (h, tt)) k
+
+-- ---- the end of a key
+
+-- one client changed, with the same name and within its numbers
+kept_changed : (r : RingState) (who : List ℕ) (f : ClientKeys → ClientKeys) → ((c : ClientKeys) → (f c).name ≡ c.name) → ((c : ClientKeys) → IsKeyed r.next_id r.next_ticket c → IsKeyed r.next_id r.next_ticket (f c)) → IsKept r → IsKept (record r { clients = changed who f r.clients })
+kept_changed r who f same keyed k = record {
+  names = names_changed who f same r.clients k.names;
+  few = omega (arith, k.few, few_changed who f same r.clients);
+  keyed = keyed_changed who f (IsKeyed r.next_id r.next_ticket) (IsKeyed r.next_id r.next_ticket) (λ c h. h) r.clients (λ c e h. keyed c h) k.keyed;
+  tickets = k.tickets;
+  given = k.given;
+  first_id = k.first_id;
+  first_ticket = k.first_ticket;
+}
+
+keyed_edited : (id next key : ℕ) (f : OldKey → List OldKey) → ((k : OldKey) → Narrows IsOlder k (f k)) → ((current : ℕ) (k : OldKey) → IsPast current next k → AllByRecursion (IsPast current next) (f k)) → (c : ClientKeys) → IsKeyed id next c → IsKeyed id next (record c { past = edited (is_key key) f c.past })
+keyed_edited id next key f narrows each c h = record {
+  few = omega (arith, h.few, length_edited IsOlder (is_key key) f narrows c.past);
+  ascend = ascends_edited IsOlder (is_key key) f narrows c.past h.ascend;
+  each = all_edited (IsPast c.id next) (is_key key) f (each c.id) c.past h.each;
+  least = h.least;
+  below = h.below;
+}
+
+swept_since : (next : ℕ) (p : OldPhase) → ticket_of p ≤ next → ticket_of (swept_phase next p) ≤ next
+swept_since next (old_phases.Draining since) h = omega arith
+swept_since next (old_phases.Swept since) h = h
+
+pub kept_marked : (r : RingState) (who : List ℕ) (id : ℕ) → IsKept r → IsKept (with_marked r who id)
+kept_marked r who id k = kept_changed r who (marked id r.next_ticket) (λ c. refl)
+    (keyed_edited r.next_id r.next_ticket id (λ j. swept_key r.next_ticket j ∷ []) (λ j. record { left = λ z h. h; right = λ z h. h })
+    (λ current j h. (record { least = h.least; older = h.older; since = swept_since r.next_ticket j.phase h.since }, tt))) k
+
+pub kept_retired : (r : RingState) (who : List ℕ) (id : ℕ) → IsKept r → IsKept (with_retired r who id)
+kept_retired r who id k = kept_changed r who (without id) (λ c. refl) (keyed_edited r.next_id r.next_ticket id (λ _. []) (λ j. tt) (λ current j h. tt)) k

@@ -3,3 +3,4 @@ pub mod Names
 pub mod Keeping
 pub mod Edits
 pub mod Steps
+pub mod Least

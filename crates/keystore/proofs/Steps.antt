@@ -9,7 +9,7 @@ use Rattle.keystore.specs.Lists.{first, edited}
 use Rattle.keystore.specs.Rings.{ClientKeys, RingState, client_of, is_named, added, changed, rotated}
 use Rattle.keystore.specs.Answers.{Answers, is_last, add_refusal, new_client, with_client, full_or_last, rotate_refusal, rotate_refusal_of, with_rotation}
 use Rattle.keystore.specs.Places.{Stands, Fits, IsClientAt}
-use Rattle.keystore.proofs.Items.{first_at}
+use Rattle.keystore.proofs.Items.{first_at, edited_none}
 use Rattle.keystore.proofs.Names.{stands_at, absent, added_at}
 use Rattle.keystore.proofs.Edits.{edit_sets}
 
@@ -80,3 +80,13 @@ module _ (s r : RingState) (e : s ≡ r) (who : List ℕ) where
     pub rotate_leaves : (key : List ℕ) (d : ClientKeys) → d ≡ rotated s.next_id key s.next_ticket c → record s { clients = set s.clients i d; next_id = s.next_id + 1 } ≡ with_rotation r who key
     rotate_leaves key d g = subst (λ (q : RingState). record s { clients = set s.clients i d; next_id = s.next_id + 1 } ≡ with_rotation q who key) e
         (ap (λ (ds : List ClientKeys). record s { clients = ds; next_id = s.next_id + 1 }) (set_changed (rotated s.next_id key s.next_ticket) d g))
+
+-- one client changed, or none where it isn't there
+module _ (s r : RingState) (e : s ≡ r) (who : List ℕ) (f : RingState → ClientKeys → ClientKeys) where
+  pub change_leaves : (i : ℕ) (c d : ClientKeys) → IsClientAt who s.clients i → c ≡ get_or s.clients i c → d ≡ f s c → record s { clients = set s.clients i d } ≡ record r { clients = changed who (f r) r.clients }
+  change_leaves i c d h is g = subst (λ (q : RingState). record s { clients = set s.clients i d } ≡ record q { clients = changed who (f q) q.clients }) e
+      (ap (λ (cs : List ClientKeys). record s { clients = cs }) (set_changed s s refl who i c h is (f s) d g))
+
+  pub change_nobody : (i : ℕ) → Fits who s.clients i → r ≡ record r { clients = changed who (f r) r.clients }
+  change_nobody i h = subst (λ (q : RingState). q ≡ record q { clients = changed who (f q) q.clients }) e
+      (ap (λ (cs : List ClientKeys). record s { clients = cs }) (sym (edited_none (is_named who) (λ c. f s c ∷ []) s.clients (absent who s.clients i h))))

@@ -13,7 +13,8 @@ use Rattle.keystore.specs.declared.refusals.DrainRefusal.TheVariants as not_drai
 use Rattle.keystore.specs.declared.refusals.RetireRefusal.{RetireRefusal}
 use Rattle.keystore.specs.declared.refusals.RetireRefusal.TheVariants as not_retired
 use Rattle.keystore.specs.declared.keys.NewKeys.{NewKeys}
-use Rattle.keystore.specs.Rings.{RingState, ClientKeys, client_of, added, changed, rotated, missing, phase_in, least_below, without}
+use Rattle.keystore.specs.declared.keys.Lease.{Lease}
+use Rattle.keystore.specs.Rings.{RingState, ClientKeys, client_of, added, changed, rotated, missing, phase_in, least_below, marked, without, view_of, currents_of}
 
 -- the refusal where there is one; else the answer is as stated, or there was no memory
 abbrev pub Answers : {T E : Type 0} → Option E → E → (T → Type 0) → Result T E → Type 0
@@ -68,6 +69,9 @@ no_key None = None
 abbrev pub lease_refusal : RingState → List (List ℕ) → Option LeaseRefusal
 lease_refusal r owners = if is_last r.next_ticket then Some no_lease.NoTicket else no_key (missing r owners)
 
+abbrev pub lease_of : RingState → List ℕ → List (List ℕ) → Lease
+lease_of r who owners = record { ticket = r.next_ticket; view = view_of r who; currents = currents_of r owners }
+
 -- the next ticket goes out
 abbrev pub with_lease : RingState → RingState
 with_lease r = record r { next_ticket = r.next_ticket + 1; out = r.out ++ record { number = r.next_ticket; abandoned = false } ∷ [] }
@@ -86,6 +90,14 @@ drain_refusal_at r (Some (phases.Draining ticket)) = leased_drain (least_below t
 
 abbrev pub drain_refusal : RingState → List ℕ → ℕ → Option DrainRefusal
 drain_refusal r who id = drain_refusal_at r (phase_in r who id)
+
+-- the client and the id of a key that is drained
+pub record DrainedKey : Type 0 where
+  pub who : List ℕ
+  pub id : ℕ
+
+abbrev pub with_marked : RingState → List ℕ → ℕ → RingState
+with_marked r who id = record r { clients = changed who (marked id r.next_ticket) r.clients }
 
 abbrev pub leased_retire : Option ℕ → Option RetireRefusal
 leased_retire (Some ticket) = Some (not_retired.Leased ticket)

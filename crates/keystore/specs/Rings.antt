@@ -13,6 +13,7 @@ use Rattle.keystore.specs.declared.phase.Phase.TheVariants as phases
 use Rattle.keystore.specs.declared.phase.OldPhase.{OldPhase}
 use Rattle.keystore.specs.declared.phase.OldPhase.TheVariants as old_phases
 use Rattle.keystore.specs.declared.phase.OldKey.{OldKey}
+use Rattle.keystore.specs.declared.keys.KeyLine.{KeyLine}
 use Rattle.keystore.specs.declared.tickets.Ticket.{Ticket}
 use Rattle.keystore.specs.Lists.{first, edited}
 
@@ -63,13 +64,31 @@ abbrev pub phase_of_old : OldPhase → Phase
 phase_of_old (old_phases.Draining ticket) = phases.Draining ticket
 phase_of_old (old_phases.Swept ticket) = phases.Swept ticket
 
+abbrev pub old_phase_of : Option OldKey → Option OldPhase
+old_phase_of found = option_map (λ (k : OldKey). k.phase) found
+
 -- the phase of a client's key
 abbrev pub phase_of : ℕ → ClientKeys → Option Phase
-phase_of id c = if c.id == id then Some phases.Current else option_map (λ k. phase_of_old k.phase) (first (is_key id) c.past)
+phase_of id c = if c.id == id then Some phases.Current else option_map phase_of_old (old_phase_of (first (is_key id) c.past))
 
 -- the phase of the key with this id of the client of this name
 abbrev pub phase_in : RingState → List ℕ → ℕ → Option Phase
 phase_in r who id = option_and_then (phase_of id) (client_of who r.clients)
+
+-- a client's keys with the numbers of their phases, oldest first
+abbrev pub number_of : OldPhase → ℕ
+number_of (old_phases.Draining ticket) = 1
+number_of (old_phases.Swept ticket) = 2
+
+abbrev pub line_of : OldKey → KeyLine
+line_of k = record { id = k.id; phase = number_of k.phase }
+
+abbrev pub lines_of : ClientKeys → List KeyLine
+lines_of c = map line_of c.past ++ record { id = c.id; phase = 0 } ∷ []
+
+abbrev pub lines_where : Option ClientKeys → List KeyLine
+lines_where (Some c) = lines_of c
+lines_where None = []
 
 -- the keys by which a client's cells can be opened
 abbrev pub live : OldKey → LiveKey

@@ -1,7 +1,8 @@
 ghost use Rattle.std.specs.Prelude.{◌≡◌, ◌++◌, ◌∷◌, [], ◌≤◌, length, IfOk, OnOk, OnErr, map};
-ghost use Rattle.keystore.specs.Rings.{name_cmp, current_key, live_keys, rotated};
+ghost use Rattle.keystore.specs.Rings.{name_cmp, current_key, live_keys, lines_of, phase_of, rotated, marked, without};
 
-use crate::phase::{OldKey, OldPhase};
+use crate::keys::KeyLine;
+use crate::phase::{self, OldKey, OldPhase, Phase};
 use acra_base::{ClientId, NoMemory, Sequence};
 use acra_block::{LiveKey, OwnerKey};
 use std::alloc::Global;
@@ -102,5 +103,50 @@ impl Client {
         self.id = id;
         self.key = key;
         Ok(())
+    }
+
+    /// The phase of its key of this id.
+    pub(crate) fn phase(&self, id: u64) -> Option<Phase>
+        ensures { result ≡ phase_of id self.now }
+    {
+        if self.id == id {
+            return Some(Phase::Current);
+        }
+        match phase::phase_in(&self.past, id) {
+            Some(phase) => Some(phase.phase()),
+            None => None,
+        }
+    }
+
+    /// Its keys with the numbers of their phases, oldest first.
+    pub(crate) fn lines(&self, alloc: Global) -> Result<Vec<KeyLine>, NoMemory>
+        ensures { IfOk result (λ lines. lines.items ≡ lines_of self.now) }
+    {
+        let mut lines = Vec::with_capacity(alloc, self.past.len() + 1)?;
+        'past: for key in &self.past {
+            lines.push(KeyLine {
+                id: key.id,
+                phase: key.phase.number(),
+            })?;
+        }
+        lines.push(KeyLine {
+            id: self.id,
+            phase: 0,
+        })?;
+        Ok(lines)
+    }
+
+    /// Makes its key of this id swept, where it drains.
+    pub(crate) fn mark(&mut self, id: u64, ticket: u64)
+        ensures { self.new ≡ marked id ticket self.old }
+    {
+        phase::mark(&mut self.past, id, ticket);
+    }
+
+    /// Takes away its key of this id, which isn't the current one.
+    pub(crate) fn remove(&mut self, id: u64)
+        ensures { self.new ≡ without id self.old }
+    {
+        phase::remove(&mut self.past, id);
     }
 }

@@ -8,6 +8,8 @@ mod refusals;
 mod ring;
 mod tickets;
 
-pub use keys::{Lease, NewKeys};
-pub use refusals::{AddRefusal, LeaseRefusal, NotAbandoned, RotateRefusal};
+pub use keys::{Drained, KeyLine, Lease, NewKeys};
+pub use refusals::{
+    AddRefusal, DrainRefusal, LeaseRefusal, NotAbandoned, RetireRefusal, RotateRefusal,
+};
 pub use ring::Ring;

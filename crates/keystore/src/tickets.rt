@@ -1,6 +1,8 @@
 ghost use Rattle.std.specs.Prelude.{◌≡◌};
+ghost use Rattle.keystore.specs.Lists.{AscendsBy};
+ghost use Rattle.keystore.specs.Kept.{IsEarlier};
 ghost use Rattle.keystore.specs.Places.{IsPlace};
-ghost use Rattle.keystore.specs.Rings.{is_ticket, released, abandoned, settled, is_abandoned};
+ghost use Rattle.keystore.specs.Rings.{is_ticket, released, abandoned, settled, is_abandoned, least_below};
 
 /// A ticket that is out.
 #[derive(Clone, Copy)]
@@ -54,4 +56,19 @@ pub(crate) fn settle(out: &mut Vec<Ticket>, number: u64) -> bool
     }
     out.remove(place);
     true
+}
+
+/// The least ticket out below this number.
+pub(crate) fn least_below(out: &[Ticket], number: u64) -> Option<u64>
+    requires { AscendsBy IsEarlier out.now }
+    ensures { result ≡ least_below number out.now }
+{
+    let Some(ticket) = out.first() else {
+        return None;
+    };
+    if ticket.number < number {
+        Some(ticket.number)
+    } else {
+        None
+    }
 }

@@ -1,11 +1,14 @@
 -- The least ticket out.
-use Rattle.std.proofs.Common.{◌≡◌, ℕ, ◌<◌, ◌≤◌, Bool, true, false, if◌then◌else◌, ltb, min, List, [], ◌∷◌, Option, Some, None, MatchOption, slice_get, refl, ap, sym, ◌∙◌, arith}
+use Rattle.std.proofs.Common.{◌≡◌, ℕ, ◌<◌, ◌≤◌, Bool, true, false, if◌then◌else◌, ltb, min, List, [], ◌∷◌, Option, Some, None, MatchOption, IfSome, slice_get, is_some, eqb, ◌⊎◌, inl, inr, refl, subst, ap, sym, ◌∙◌, arith}
 use Rattle.std.specs.List.{AllByRecursion}
 use Rattle.std.proofs.lemmas.Bool.Decides.{nat_tests}
 use Rattle.keystore.specs.declared.tickets.Ticket.{Ticket}
-use Rattle.keystore.specs.Lists.{AscendsBy}
-use Rattle.keystore.specs.Rings.{lesser, least_below}
+use Rattle.std.proofs.lemmas.Bool.{cases_lt}
+use Rattle.keystore.specs.Lists.{first, AscendsBy}
+use Rattle.keystore.specs.Rings.{is_ticket, lesser, least_below}
 use Rattle.keystore.specs.Kept.{IsEarlier}
+use Rattle.keystore.specs.Moves.{is_out, IsLeastBelow}
+use Rattle.keystore.proofs.Items.{all_weaker}
 
 abbrev pub IsAbove : ℕ → Option ℕ → Type 0
 IsAbove m None = Unit {0}
@@ -45,3 +48,73 @@ least_at_first n (u ∷ us) t h e lt = let same : t ≡ u = cc in rw same (sym (
 pub none_at_first : (n : ℕ) (out : List Ticket) (t : Ticket) → AscendsBy IsEarlier out → Some t ≡ slice_get out 0 → n ≤ t.number → None ≡ least_below n out
 none_at_first n [] t h e le = cc
 none_at_first n (u ∷ us) t h e le = let same : t ≡ u = cc in sym (least_none n u us h (rw same at le))
+
+-- ---- what is told is the least ticket out, whatever the order
+
+abbrev NoneBelow : ℕ → List Ticket → Type 0
+NoneBelow n out = AllByRecursion (λ (t : Ticket). n ≤ t.number) out
+
+out_by_test : (t : Ticket) (o : Option Ticket) (b : Bool) → is_some o ≡ true → is_some (if b then Some t else o) ≡ true
+out_by_test t o true h = refl
+out_by_test t o false h = h
+
+out_first : (t : Ticket) (ts : List Ticket) → is_out t.number (t ∷ ts) ≡ true
+out_first t ts = let same : eqb t.number t.number ≡ true = grind (arith, nat_tests) in rw same refl
+
+out_later : (m : ℕ) (t : Ticket) (ts : List Ticket) → is_out m ts ≡ true → is_out m (t ∷ ts) ≡ true
+out_later m t ts h = out_by_test t (first (is_ticket m) ts) (eqb t.number m) h
+
+least_here : (n k : ℕ) (t : Ticket) (ts : List Ticket) → t.number < n → t.number ≤ k → AllByRecursion (λ (u : Ticket). k ≤ u.number) ts → IsLeastBelow n t.number (t ∷ ts)
+least_here n k t ts lt le each = record {
+  below = lt;
+  there = out_first t ts;
+  least = (omega arith, all_weaker (λ (u : Ticket). k ≤ u.number) (λ (u : Ticket). t.number ≤ u.number) (λ u h. omega (arith, h)) ts each);
+}
+
+least_there : (n l : ℕ) (t : Ticket) (ts : List Ticket) → l ≤ t.number → IsLeastBelow n l ts → IsLeastBelow n l (t ∷ ts)
+least_there n l t ts le h = record { below = h.below; there = out_later l t ts h.there; least = (le, h.least) }
+
+abbrev IsSound : ℕ → List Ticket → Option ℕ → Type 0
+IsSound n out None = NoneBelow n out
+IsSound n out (Some m) = IsLeastBelow n m out
+
+lesser_sound : (n : ℕ) (t : Ticket) (ts : List Ticket) (o : Option ℕ) → t.number < n → IsSound n ts o → IsLeastBelow n (lesser t.number o) (t ∷ ts)
+lesser_sound n t ts None lt h = least_here n n t ts lt (omega arith) h
+lesser_sound n t ts (Some l) lt h = elim (cases_lt l t.number) [
+  | inl less ↦ let same : l ≡ min t.number l = omega arith in subst (λ (m : ℕ). IsLeastBelow n m (t ∷ ts)) same (least_there n l t ts (omega arith) h)
+  | inr more ↦ let same : t.number ≡ min t.number l = omega arith in subst (λ (m : ℕ). IsLeastBelow n m (t ∷ ts)) same (least_here n l t ts lt more h.least)
+]
+
+over_sound : (n : ℕ) (t : Ticket) (ts : List Ticket) (o : Option ℕ) → n ≤ t.number → IsSound n ts o → IsSound n (t ∷ ts) o
+over_sound n t ts None le h = (le, h)
+over_sound n t ts (Some l) le h = least_there n l t ts (omega (arith, h.below)) h
+
+sound : (n : ℕ) (out : List Ticket) → IsSound n out (least_below n out)
+sound n [] = tt
+sound n (t ∷ ts) = elim (cases_lt t.number n) [
+  | inl less ↦ let under : ltb t.number n ≡ true = grind (arith, nat_tests) in rw under (lesser_sound n t ts (least_below n ts) less (sound n ts))
+  | inr more ↦ let over : ltb t.number n ≡ false = grind (arith, nat_tests) in rw over (over_sound n t ts (least_below n ts) more (sound n ts))
+]
+
+pub told_is_least : (n m : ℕ) (out : List Ticket) → least_below n out ≡ Some m → IsLeastBelow n m out
+told_is_least n m out h = subst (IsSound n out) h (sound n out)
+
+at_by_test : (P : ℕ → Type 0) (m : ℕ) (t : Ticket) (o : Option Ticket) (b : Bool) → (b ≡ true → t.number ≡ m) → is_some (if b then Some t else o) ≡ true → P t.number → (is_some o ≡ true → P m) → P m
+at_by_test P m t o true same h this rest = subst P (same refl) this
+at_by_test P m t o false same h this rest = rest h
+
+-- what holds of each ticket out holds of one that is out
+at_out : (P : ℕ → Type 0) (m : ℕ) (out : List Ticket) → is_out m out ≡ true → AllByRecursion (λ (t : Ticket). P t.number) out → P m
+at_out P m [] h each = cc
+at_out P m (t ∷ ts) h each = at_by_test P m t (first (is_ticket m) ts) (eqb t.number m) (λ e. grind (arith, nat_tests)) h each.0 (λ g. at_out P m ts g each.1)
+
+least_by_sound : (n m : ℕ) (out : List Ticket) (o : Option ℕ) → IsSound n out o → IsLeastBelow n m out → o ≡ Some m
+least_by_sound n m out None none h = let over = at_out (λ k. n ≤ k) m out h.there none in absurd (omega (arith, h.below, over))
+least_by_sound n m out (Some l) s h =
+    let up = at_out (λ k. l ≤ k) m out h.there s.least in
+    let down = at_out (λ k. m ≤ k) l out s.there h.least in
+    let same : l ≡ m = omega (arith, up, down) in
+    ap Some same
+
+pub least_told : (n m : ℕ) (out : List Ticket) → IsLeastBelow n m out → least_below n out ≡ Some m
+least_told n m out h = least_by_sound n m out (least_below n out) (sound n out) h

@@ -4,3 +4,4 @@ pub mod Keeping
 pub mod Edits
 pub mod Steps
 pub mod Least
+pub mod Moving

@@ -3,3 +3,4 @@ pub mod Rings
 pub mod Answers
 pub mod Kept
 pub mod Places
+pub mod Moves

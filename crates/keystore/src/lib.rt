@@ -3,13 +3,18 @@
 
 mod client;
 mod keys;
+mod laws;
 mod phase;
 mod refusals;
 mod ring;
 mod tickets;
 
 pub use keys::{Drained, KeyLine, Lease, NewKeys};
+pub use laws::{given_once, least_is_told};
 pub use refusals::{
     AddRefusal, DrainRefusal, LeaseRefusal, NotAbandoned, RetireRefusal, RotateRefusal,
 };
 pub use ring::Ring;
+
+#[cfg(test)]
+mod tests;

@@ -28,9 +28,10 @@ pub(crate) fn release(out: &mut Vec<Ticket>, number: u64)
     ensures { out.new.items ≡ released number out.old.items }
 {
     if let Some(place) = place_of(out, number) {
-        if !out[place].abandoned {
-            out.remove(place);
+        if out[place].abandoned {
+            return;
         }
+        out.remove(place);
     }
 }
 

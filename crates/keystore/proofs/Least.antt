@@ -54,7 +54,7 @@ none_at_first n (u ∷ us) t h e le = let same : t ≡ u = cc in sym (least_none
 abbrev NoneBelow : ℕ → List Ticket → Type 0
 NoneBelow n out = AllByRecursion (λ (t : Ticket). n ≤ t.number) out
 
-out_by_test : (t : Ticket) (o : Option Ticket) (b : Bool) → is_some o ≡ true → is_some (if b then Some t else o) ≡ true
+pub out_by_test : (t : Ticket) (o : Option Ticket) (b : Bool) → is_some o ≡ true → is_some (if b then Some t else o) ≡ true
 out_by_test t o true h = refl
 out_by_test t o false h = h
 
@@ -118,3 +118,7 @@ least_by_sound n m out (Some l) s h =
 
 pub least_told : (n m : ℕ) (out : List Ticket) → IsLeastBelow n m out → least_below n out ≡ Some m
 least_told n m out h = least_by_sound n m out (least_below n out) (sound n out) h
+
+-- where a ticket below the bound is out, one is told
+pub none_is_out : (n m : ℕ) (out : List Ticket) → is_out m out ≡ true → m < n → least_below n out ≡ None → ⊥
+none_is_out n m out there lt e = let over = at_out (λ k. n ≤ k) m out there (subst (IsSound n out) e (sound n out)) in omega (arith, over, lt)

@@ -5,3 +5,5 @@ pub mod Edits
 pub mod Steps
 pub mod Least
 pub mod Moving
+pub mod Staying
+pub mod Leased

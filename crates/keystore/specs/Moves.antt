@@ -1,10 +1,12 @@
 -- What may happen to a ring, one call after the other.
-use Rattle.std.specs.Prelude.{ℕ, ◌≡◌, ◌≤◌, ◌<◌, Bool, if◌then◌else◌, List, [], ◌∷◌, is_none, is_some, true}
+use Rattle.std.specs.Prelude.{ℕ, ◌≡◌, ◌≢◌, ◌≤◌, ◌<◌, Bool, if◌then◌else◌, List, [], ◌∷◌, Option, Some, None, is_none, is_some, true}
 use Rattle.std.specs.List.{AllByRecursion}
 use Rattle.keystore.specs.declared.keys.NewKeys.{NewKeys}
+use Rattle.keystore.specs.declared.phase.Phase.{Phase}
+use Rattle.keystore.specs.declared.phase.Phase.TheVariants as phases
 use Rattle.keystore.specs.declared.tickets.Ticket.{Ticket}
 use Rattle.keystore.specs.Lists.{first}
-use Rattle.keystore.specs.Rings.{RingState, is_ticket, released, abandoned, settled}
+use Rattle.keystore.specs.Rings.{RingState, phase_in, is_ticket, released, abandoned, settled}
 use Rattle.keystore.specs.Answers.{add_refusal, with_client, rotate_refusal, with_rotation, with_lease, with_marked, retire_refusal, with_retired}
 
 -- a call that changes a ring, by what it is given; a lease gives the next ticket whatever is lent
@@ -42,3 +44,27 @@ pub record IsLeastBelow (n m : ℕ) (out : List Ticket) : Type 0 where
   pub below : m < n
   pub there : is_out m out ≡ true
   pub least : AllByRecursion (λ (t : Ticket). m ≤ t.number) out
+
+-- ---- what a lease keeps
+
+-- the calls that take no ticket of this number in
+abbrev pub Keeps : ℕ → Move → Type 0
+Keeps n (Add who keys) = Unit {0}
+Keeps n (Rotate who key) = Unit {0}
+Keeps n Lend = Unit {0}
+Keeps n (Release m) = m ≢ n
+Keeps n (Abandon m) = Unit {0}
+Keeps n (Settle m) = m ≢ n
+Keeps n (Mark who id) = Unit {0}
+Keeps n (Retire who id) = Unit {0}
+
+-- the key is in the ring, and isn't swept
+abbrev pub IsUsed : Option Phase → Type 0
+IsUsed (Some phases.Current) = Unit {0}
+IsUsed (Some (phases.Draining since)) = Unit {0}
+IsUsed (Some (phases.Swept since)) = ⊥
+IsUsed None = ⊥
+
+-- the key is in the ring, and so among the live keys of its client
+abbrev pub is_live : RingState → List ℕ → ℕ → Bool
+is_live r who id = is_some (phase_in r who id)

@@ -10,7 +10,7 @@ mod ring;
 mod tickets;
 
 pub use keys::{Drained, KeyLine, Lease, NewKeys};
-pub use laws::{given_once, least_is_told};
+pub use laws::{given_once, leased_keys_stay, least_is_told};
 pub use refusals::{
     AddRefusal, DrainRefusal, LeaseRefusal, NotAbandoned, RetireRefusal, RotateRefusal,
 };

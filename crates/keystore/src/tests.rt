@@ -57,9 +57,10 @@ fn clients_stand_by_their_names(rt: HostRuntime) -> Result<(), Fail> {
 fn a_lease_lends_keys(rt: HostRuntime) -> Result<(), Fail> {
     let alloc = rt.alloc();
     let mut ring = ring(alloc)?;
-    let owners = [client("b")?, client("a")?, client("b")?];
-    assert_eq!(rt; ring.rotate(&owners[0], [7; 32]), Ok(3));
-    let lease = ring.lease(&owners[0], &owners).ok().ok_or("no lease")?;
+    let who = client("b")?;
+    let owners = [who, client("a")?, who];
+    assert_eq!(rt; ring.rotate(&who, [7; 32]), Ok(3));
+    let lease = ring.lease(&who, &owners).ok().ok_or("no lease")?;
     assert_eq!(rt; lease.ticket, 1);
     assert_eq!(rt; lease.view.next_id, 4);
     assert_eq!(rt; lease.view.keys.len(), 2);
@@ -71,7 +72,7 @@ fn a_lease_lends_keys(rt: HostRuntime) -> Result<(), Fail> {
     let nobody = ring.view(&client("c")?).ok().ok_or("no memory")?;
     assert!(rt; nobody.keys.is_empty());
     let strangers = [client("a")?, client("c")?, client("d")?];
-    match ring.lease(&owners[0], &strangers) {
+    match ring.lease(&who, &strangers) {
         Err(LeaseRefusal::NoKey { owner }) => assert_eq!(rt; owner.text(), b"c".as_slice()),
         _ => return Err("a lease of a stranger's key")?,
     }

@@ -1,5 +1,5 @@
 -- Each call keeps what is true of every ring.
-use Rattle.std.proofs.Common.{◌≡◌, ℕ, ◌<◌, ◌≤◌, ◌+◌, Bool, true, false, if◌then◌else◌, List, [], ◌∷◌, ◌++◌, length, Option, Some, refl, ap, sym, subst, ◌∙◌, arith, length-append}
+use Rattle.std.proofs.Common.{◌≡◌, ℕ, ◌<◌, ◌≤◌, ◌+◌, Bool, true, false, if◌then◌else◌, List, [], ◌∷◌, ◌++◌, length, Option, Some, inr, refl, ap, sym, subst, ◌∙◌, arith, length-append}
 use Rattle.std.specs.List.{AllByRecursion, insert}
 use Rattle.std.specs.declared.cmp.Ordering.TheVariants.{Less}
 use Rattle.std.proofs.lemmas.List.Edits.{length-insert}
@@ -11,9 +11,10 @@ use Rattle.keystore.specs.declared.tickets.Ticket.{Ticket}
 use Rattle.keystore.specs.Lists.{first, edited, AscendsBy}
 use Rattle.keystore.specs.Rings.{ClientKeys, RingState, name_cmp, is_named, is_key, is_ticket, changed, rotated, marked, without, swept_key, swept_phase, released, abandoned, settled}
 use Rattle.keystore.specs.Answers.{new_client, with_client, with_rotation, with_lease, with_marked, with_retired}
-use Rattle.keystore.specs.Kept.{IsBefore, IsOlder, IsEarlier, ticket_of, IsPast, IsKeyed, IsKept}
+use Rattle.keystore.specs.Kept.{has_id, IsBefore, IsOlder, IsEarlier, ticket_of, IsPast, IsKeyed, IsKept}
 use Rattle.keystore.specs.Places.{Fits}
 use Rattle.keystore.proofs.Items.{all_weaker, all_push, ascends_push, all_edited, ascends_edited, length_edited, IsLike, Narrows}
+use Rattle.keystore.proofs.Apart.{apart_added, apart_changed, new_ids, rotated_ids, marked_ids, without_ids}
 use Rattle.keystore.proofs.Names.{added_at, all_added, names_added}
 
 -- ---- later numbers
@@ -39,6 +40,7 @@ pub kept_added : (r : RingState) (who : List ℕ) (keys : NewKeys) (i : ℕ) →
 kept_added r who keys i k fits small = record {
   names = names_added (new_client r who keys) r.clients i fits k.names;
   few = rw (added_at (new_client r who keys) r.clients i fits) (omega (arith, length-insert r.clients i (new_client r who keys) fits.within));
+  apart = apart_added r.next_id r.next_ticket (new_client r who keys) (λ id h. new_ids r.next_id id h) r.clients k.keyed k.apart;
   keyed = all_added (IsKeyed (r.next_id + 1) r.next_ticket) (new_client r who keys) r.clients i fits (new_keyed r who keys k)
       (all_weaker (IsKeyed r.next_id r.next_ticket) (IsKeyed (r.next_id + 1) r.next_ticket) (keyed_later r.next_id (r.next_id + 1) r.next_ticket r.next_ticket (omega arith) (omega arith)) r.clients k.keyed);
   tickets = k.tickets;
@@ -86,6 +88,7 @@ pub kept_rotated : (r : RingState) (who key : List ℕ) (c : ClientKeys) → IsK
 kept_rotated r who key c k found small = record {
   names = names_changed who (rotated r.next_id key r.next_ticket) (λ c. refl) r.clients k.names;
   few = omega (arith, k.few, few_changed who (rotated r.next_id key r.next_ticket) (λ c. refl) r.clients);
+  apart = apart_changed r.next_id r.next_ticket who (rotated r.next_id key r.next_ticket) (λ id d h. rotated_ids id r.next_id r.next_ticket key d h) r.clients k.keyed k.apart;
   keyed = keyed_changed who (rotated r.next_id key r.next_ticket) (IsKeyed r.next_id r.next_ticket) (IsKeyed (r.next_id + 1) r.next_ticket)
       (keyed_later r.next_id (r.next_id + 1) r.next_ticket r.next_ticket (omega arith) (omega arith)) r.clients
       (λ d e h. let same : d ≡ c = cc in rotated_keyed r.next_id r.next_ticket key d k.first_id (rw same small) h) k.keyed;
@@ -101,6 +104,7 @@ pub kept_lease : (r : RingState) → IsKept r → IsKept (with_lease r)
 kept_lease r k = record {
   names = k.names;
   few = k.few;
+  apart = k.apart;
   keyed = all_weaker (IsKeyed r.next_id r.next_ticket) (IsKeyed r.next_id (r.next_ticket + 1)) (keyed_later r.next_id r.next_id r.next_ticket (r.next_ticket + 1) (omega arith) (omega arith)) r.clients k.keyed;
   tickets = ascends_push IsEarlier r.out _ k.tickets k.given;
   given = all_push (λ (t : Ticket). t.number < r.next_ticket + 1) r.out _ (all_weaker (λ (t : Ticket). t.number < r.next_ticket) (λ (t : Ticket). t.number < r.next_ticket + 1) (λ t h. omega (arith, h)) r.out k.given) (omega arith);
@@ -112,6 +116,7 @@ kept_out : (r : RingState) (n : ℕ) (f : Ticket → List Ticket) → ((t : Tick
 kept_out r n f narrows given k = record {
   names = k.names;
   few = k.few;
+  apart = k.apart;
   keyed = k.keyed;
   tickets = ascends_edited IsEarlier (is_ticket n) f narrows r.out k.tickets;
   given = all_edited (λ (t : Ticket). t.number < r.next_ticket) (is_ticket n) f given r.out k.given;
@@ -150,10 +155,11 @@ kept_abandoned r n k = kept_out r n (λ t. record t { abandoned = true } ∷ [])
 -- ---- the end of a key
 
 -- one client changed, with the same name and within its numbers
-kept_changed : (r : RingState) (who : List ℕ) (f : ClientKeys → ClientKeys) → ((c : ClientKeys) → (f c).name ≡ c.name) → ((c : ClientKeys) → IsKeyed r.next_id r.next_ticket c → IsKeyed r.next_id r.next_ticket (f c)) → IsKept r → IsKept (record r { clients = changed who f r.clients })
-kept_changed r who f same keyed k = record {
+kept_changed : (r : RingState) (who : List ℕ) (f : ClientKeys → ClientKeys) → ((c : ClientKeys) → (f c).name ≡ c.name) → ((id : ℕ) (c : ClientKeys) → has_id id (f c) ≡ true → has_id id c ≡ true) → ((c : ClientKeys) → IsKeyed r.next_id r.next_ticket c → IsKeyed r.next_id r.next_ticket (f c)) → IsKept r → IsKept (record r { clients = changed who f r.clients })
+kept_changed r who f same ids keyed k = record {
   names = names_changed who f same r.clients k.names;
   few = omega (arith, k.few, few_changed who f same r.clients);
+  apart = apart_changed r.next_id r.next_ticket who f (λ id c h. inr (ids id c h)) r.clients k.keyed k.apart;
   keyed = keyed_changed who f (IsKeyed r.next_id r.next_ticket) (IsKeyed r.next_id r.next_ticket) (λ c h. h) r.clients (λ c e h. keyed c h) k.keyed;
   tickets = k.tickets;
   given = k.given;
@@ -175,9 +181,9 @@ swept_since next (old_phases.Draining since) h = omega arith
 swept_since next (old_phases.Swept since) h = h
 
 pub kept_marked : (r : RingState) (who : List ℕ) (id : ℕ) → IsKept r → IsKept (with_marked r who id)
-kept_marked r who id k = kept_changed r who (marked id r.next_ticket) (λ c. refl)
+kept_marked r who id k = kept_changed r who (marked id r.next_ticket) (λ c. refl) (λ n c h. marked_ids n id r.next_ticket c h)
     (keyed_edited r.next_id r.next_ticket id (λ j. swept_key r.next_ticket j ∷ []) (λ j. record { left = λ z h. h; right = λ z h. h })
     (λ current j h. (record { least = h.least; older = h.older; since = swept_since r.next_ticket j.phase h.since }, tt))) k
 
 pub kept_retired : (r : RingState) (who : List ℕ) (id : ℕ) → IsKept r → IsKept (with_retired r who id)
-kept_retired r who id k = kept_changed r who (without id) (λ c. refl) (keyed_edited r.next_id r.next_ticket id (λ _. []) (λ j. tt) (λ current j h. tt)) k
+kept_retired r who id k = kept_changed r who (without id) (λ c. refl) (λ n c h. without_ids n id c h) (keyed_edited r.next_id r.next_ticket id (λ _. []) (λ j. tt) (λ current j h. tt)) k

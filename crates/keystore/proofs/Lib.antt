@@ -7,3 +7,4 @@ pub mod Least
 pub mod Moving
 pub mod Staying
 pub mod Leased
+pub mod Apart

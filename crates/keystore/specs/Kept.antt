@@ -1,13 +1,13 @@
 -- What is true of every ring.
-use Rattle.std.specs.Prelude.{ℕ, ◌≡◌, ◌≤◌, ◌<◌, List, length}
+use Rattle.std.specs.Prelude.{ℕ, ◌≡◌, ◌==◌, ◌≤◌, ◌<◌, ◌||◌, Bool, true, is_some, List, length}
 use Rattle.std.specs.List.{AllByRecursion}
 use Rattle.std.specs.declared.cmp.Ordering.TheVariants.{Less}
 use Rattle.keystore.specs.declared.phase.OldPhase.{OldPhase}
 use Rattle.keystore.specs.declared.phase.OldPhase.TheVariants as old_phases
 use Rattle.keystore.specs.declared.phase.OldKey.{OldKey}
 use Rattle.keystore.specs.declared.tickets.Ticket.{Ticket}
-use Rattle.keystore.specs.Lists.{AscendsBy}
-use Rattle.keystore.specs.Rings.{ClientKeys, RingState, name_cmp}
+use Rattle.keystore.specs.Lists.{first, AscendsBy}
+use Rattle.keystore.specs.Rings.{ClientKeys, RingState, name_cmp, is_key}
 
 abbrev pub IsBefore : ClientKeys → ClientKeys → Type 0
 IsBefore c d = name_cmp c.name d.name ≡ Less
@@ -17,6 +17,17 @@ IsOlder j k = j.id < k.id
 
 abbrev pub IsEarlier : Ticket → Ticket → Type 0
 IsEarlier s t = s.number < t.number
+
+-- the client has a key of this id
+abbrev pub has_old : ℕ → List OldKey → Bool
+has_old id past = is_some (first (is_key id) past)
+
+abbrev pub has_id : ℕ → ClientKeys → Bool
+has_id id c = (c.id == id) || has_old id c.past
+
+-- no id is of both clients
+pub record IsApart (c d : ClientKeys) : Type 0 where
+  pub none : (id : ℕ) → has_id id c ≡ true → has_id id d ≡ true → ⊥
 
 -- the ticket at which an old key came into its phase
 abbrev pub ticket_of : OldPhase → ℕ
@@ -40,6 +51,7 @@ pub record IsKeyed (next_id next_ticket : ℕ) (c : ClientKeys) : Type 0 where
 pub record IsKept (r : RingState) : Type 0 where
   pub names : AscendsBy IsBefore r.clients
   pub few : length r.clients ≤ 256
+  pub apart : AscendsBy IsApart r.clients
   pub keyed : AllByRecursion (IsKeyed r.next_id r.next_ticket) r.clients
   pub tickets : AscendsBy IsEarlier r.out
   pub given : AllByRecursion (λ (t : Ticket). t.number < r.next_ticket) r.out

@@ -53,14 +53,18 @@ fn clients_stand_by_their_names(rt: HostRuntime) -> Result<(), Fail> {
     Ok(())
 }
 
+/// A lease for a client with its own current key, that of another, and its own again.
+fn lease_three(ring: &mut Ring, who: &ClientId, other: &ClientId) -> Result<Lease, Fail> {
+    let owners = [*who, *other, *who];
+    Ok(ring.lease(who, &owners).ok().ok_or("no lease")?)
+}
+
 #[test]
 fn a_lease_lends_keys(rt: HostRuntime) -> Result<(), Fail> {
-    let alloc = rt.alloc();
-    let mut ring = ring(alloc)?;
+    let mut ring = ring(rt.alloc())?;
     let who = client("b")?;
-    let owners = [who, client("a")?, who];
     assert_eq!(rt; ring.rotate(&who, [7; 32]), Ok(3));
-    let lease = ring.lease(&who, &owners).ok().ok_or("no lease")?;
+    let lease = lease_three(&mut ring, &who, &client("a")?)?;
     assert_eq!(rt; lease.ticket, 1);
     assert_eq!(rt; lease.view.next_id, 4);
     assert_eq!(rt; lease.view.keys.len(), 2);
@@ -69,13 +73,23 @@ fn a_lease_lends_keys(rt: HostRuntime) -> Result<(), Fail> {
     }
     assert!(rt; lease.view.find(1).is_some());
     assert!(rt; lease.view.find(2).is_none());
-    let nobody = ring.view(&client("c")?).ok().ok_or("no memory")?;
-    assert!(rt; nobody.keys.is_empty());
-    let strangers = [client("a")?, client("c")?, client("d")?];
-    match ring.lease(&who, &strangers) {
-        Err(LeaseRefusal::NoKey { owner }) => assert_eq!(rt; owner.text(), b"c".as_slice()),
-        _ => return Err("a lease of a stranger's key")?,
-    }
+    Ok(())
+}
+
+#[test]
+fn a_stranger_has_no_key(rt: HostRuntime) -> Result<(), Fail> {
+    let mut ring = ring(rt.alloc())?;
+    let who = client("c")?;
+    let view = ring.view(&who).ok().ok_or("no memory")?;
+    assert!(rt; view.keys.is_empty());
+    let refusal = lease_three(&mut ring, &client("b")?, &who).err();
+    assert!(rt; refusal.is_some());
+    let owners = [client("a")?, client("c")?, client("d")?];
+    let refusal = ring.lease(&who, &owners).err().ok_or("a stranger's key")?;
+    let LeaseRefusal::NoKey { owner } = &refusal else {
+        return Err("another refusal")?;
+    };
+    assert_eq!(rt; owner.text(), b"c".as_slice());
     Ok(())
 }
 

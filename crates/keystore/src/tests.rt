@@ -82,8 +82,6 @@ fn a_stranger_has_no_key(rt: HostRuntime) -> Result<(), Fail> {
     let who = client("c")?;
     let view = ring.view(&who).ok().ok_or("no memory")?;
     assert!(rt; view.keys.is_empty());
-    let refusal = lease_three(&mut ring, &client("b")?, &who).err();
-    assert!(rt; refusal.is_some());
     let owners = [client("a")?, client("c")?, client("d")?];
     let refusal = ring.lease(&who, &owners).err().ok_or("a stranger's key")?;
     let LeaseRefusal::NoKey { owner } = &refusal else {

@@ -1,9 +1,9 @@
 -- Edits of the tickets out, by place.
-use Rattle.std.proofs.Common.{◌≡◌, ℕ, suc, ◌<◌, Bool, true, false, if◌then◌else◌, List, [], ◌∷◌, ◌++◌, length, get_or, set, take, drop, Option, Some, None, refl, ap, sym, ◌∙◌}
+use Rattle.std.proofs.Common.{◌≡◌, ℕ, suc, Bool, true, false, if◌then◌else◌, List, [], ◌∷◌, ◌++◌, get_or, set, take, drop, refl, ap, sym, ◌∙◌}
 use Rattle.std.specs.List.{remove}
 use Rattle.std.proofs.lemmas.List.{set_split, set-get_or}
 use Rattle.keystore.specs.declared.tickets.Ticket.{Ticket}
-use Rattle.keystore.specs.Lists.{first, edited}
+use Rattle.keystore.specs.Lists.{edited}
 use Rattle.keystore.specs.Rings.{is_ticket, released, abandoned, settled, abandons, is_abandoned}
 use Rattle.keystore.specs.Places.{Stands}
 use Rattle.keystore.proofs.Items.{first_at, edited_at}

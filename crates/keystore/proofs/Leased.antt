@@ -1,5 +1,5 @@
 -- A key that isn't swept when a lease is given stays in the ring while its ticket is out.
-use Rattle.std.proofs.Common.{◌≡◌, ◌≢◌, ℕ, ◌<◌, ◌≤◌, ◌+◌, ◌⊎◌, inl, inr, Bool, true, false, if◌then◌else◌, eqb, List, [], ◌∷◌, ◌++◌, Option, Some, None, is_some, is_none, option_map, refl, ap, sym, subst, ◌∙◌, arith}
+use Rattle.std.proofs.Common.{◌≡◌, ◌≢◌, ℕ, ◌<◌, inl, inr, Bool, true, false, if◌then◌else◌, eqb, List, [], ◌∷◌, ◌++◌, Option, Some, None, is_some, is_none, option_map, refl, ap, sym, subst, ◌∙◌, arith}
 use Rattle.std.specs.List.{AllByRecursion}
 use Rattle.std.specs.Option.{option_and_then}
 use Rattle.std.specs.Cmp.Lexicographic.{pointwise}
@@ -14,15 +14,12 @@ use Rattle.keystore.specs.declared.phase.OldPhase.{OldPhase}
 use Rattle.keystore.specs.declared.phase.OldPhase.TheVariants as old_phases
 use Rattle.keystore.specs.declared.phase.OldKey.{OldKey}
 use Rattle.keystore.specs.declared.tickets.Ticket.{Ticket}
-use Rattle.keystore.specs.declared.refusals.AddRefusal.{AddRefusal}
 use Rattle.keystore.specs.declared.refusals.AddRefusal.TheVariants as no_add
-use Rattle.keystore.specs.declared.refusals.RetireRefusal.{RetireRefusal}
-use Rattle.keystore.specs.declared.refusals.RetireRefusal.TheVariants as not_retired
 use Rattle.keystore.specs.Lists.{first, edited, AscendsBy}
 use Rattle.keystore.specs.Kept.{IsOlder, IsPast, IsKeyed, IsKept}
 use Rattle.keystore.proofs.Items.{all_weaker}
 use Rattle.keystore.specs.Rings.{ClientKeys, RingState, name_cmp, is_named, is_ticket, client_of, added, changed, rotated, marked, without, phase_of, phase_of_old, old_phase_of, is_key, phase_in, least_below, released, abandoned, settled}
-use Rattle.keystore.specs.Answers.{is_last, add_refusal, new_client, with_client, rotate_refusal, with_rotation, with_lease, with_marked, retire_refusal, retire_refusal_at, leased_retire, with_retired}
+use Rattle.keystore.specs.Answers.{add_refusal, new_client, with_client, rotate_refusal, with_rotation, with_lease, retire_refusal, retire_refusal_at, leased_retire, with_retired}
 use Rattle.keystore.specs.Moves.{Move, Add, Rotate, Lend, Release, Abandon, Settle, Mark, Retire, moved, after, is_out, Keeps, is_live, IsUsed}
 use Rattle.keystore.proofs.Least.{none_is_out, out_by_test}
 use Rattle.keystore.proofs.Staying.{Hold, HoldsPhase, hold_marked, hold_rotated, hold_without, hold_swept}

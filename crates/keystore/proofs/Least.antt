@@ -1,5 +1,5 @@
 -- The least ticket out.
-use Rattle.std.proofs.Common.{◌≡◌, ℕ, ◌<◌, ◌≤◌, Bool, true, false, if◌then◌else◌, ltb, min, List, [], ◌∷◌, Option, Some, None, MatchOption, IfSome, slice_get, is_some, eqb, ◌⊎◌, inl, inr, refl, subst, ap, sym, ◌∙◌, arith}
+use Rattle.std.proofs.Common.{◌≡◌, ℕ, ◌<◌, ◌≤◌, Bool, true, false, if◌then◌else◌, ltb, min, List, [], ◌∷◌, Option, Some, None, slice_get, is_some, eqb, inl, inr, refl, subst, ap, sym, arith}
 use Rattle.std.specs.List.{AllByRecursion}
 use Rattle.std.proofs.lemmas.Bool.Decides.{nat_tests}
 use Rattle.keystore.specs.declared.tickets.Ticket.{Ticket}

@@ -1,7 +1,7 @@
 -- Tickets over a list of calls.
-use Rattle.std.proofs.Common.{◌≡◌, ℕ, ◌<◌, ◌≤◌, ◌+◌, Bool, true, false, if◌then◌else◌, List, [], ◌∷◌, is_none, refl, arith}
+use Rattle.std.proofs.Common.{◌≤◌, Bool, true, false, if◌then◌else◌, List, [], ◌∷◌, is_none, arith}
 use Rattle.keystore.specs.Rings.{RingState}
-use Rattle.keystore.specs.Answers.{add_refusal, with_client, rotate_refusal, with_rotation, with_lease, retire_refusal, with_retired}
+use Rattle.keystore.specs.Answers.{add_refusal, with_client, rotate_refusal, with_rotation, retire_refusal, with_retired}
 use Rattle.keystore.specs.Moves.{Move, Add, Rotate, Lend, Release, Abandon, Settle, Mark, Retire, moved, after}
 
 next_by_test : (r s : RingState) (b : Bool) → r.next_ticket ≤ s.next_ticket → r.next_ticket ≤ (if b then s else r).next_ticket

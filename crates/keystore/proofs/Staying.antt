@@ -1,23 +1,15 @@
 -- A key that isn't swept when a lease is given stays while the lease's ticket is out.
-use Rattle.std.proofs.Common.{◌≡◌, ◌≢◌, ℕ, ◌<◌, ◌≤◌, ◌+◌, ◌⊎◌, inl, inr, Bool, true, false, if◌then◌else◌, eqb, nat_eq, List, [], ◌∷◌, ◌++◌, Option, Some, None, is_some, is_none, option_map, refl, ap, sym, subst, ◌∙◌, arith}
+use Rattle.std.proofs.Common.{◌≡◌, ◌≢◌, ℕ, ◌<◌, Bool, true, false, if◌then◌else◌, eqb, List, [], ◌∷◌, ◌++◌, Option, Some, None, is_some, option_map, refl, sym, subst, arith}
 use Rattle.std.specs.List.{AllByRecursion}
-use Rattle.std.specs.Cmp.Lexicographic.{pointwise}
-use Rattle.std.specs.Ordering.{is_gt}
 use Rattle.std.proofs.lemmas.Bool.Decides.{nat_tests}
-use Rattle.std.proofs.lemmas.Slice.Eq.{bytes_eq-Decides}
-use Rattle.keystore.specs.declared.keys.NewKeys.{NewKeys}
 use Rattle.keystore.specs.declared.phase.Phase.{Phase}
 use Rattle.keystore.specs.declared.phase.Phase.TheVariants as phases
 use Rattle.keystore.specs.declared.phase.OldPhase.{OldPhase}
 use Rattle.keystore.specs.declared.phase.OldPhase.TheVariants as old_phases
 use Rattle.keystore.specs.declared.phase.OldKey.{OldKey}
-use Rattle.keystore.specs.declared.tickets.Ticket.{Ticket}
-use Rattle.keystore.specs.declared.refusals.AddRefusal.{AddRefusal}
-use Rattle.keystore.specs.Lists.{first, edited, AscendsBy}
-use Rattle.keystore.specs.Rings.{ClientKeys, RingState, name_cmp, is_named, is_key, is_ticket, client_of, added, changed, rotated, marked, without, swept_key, swept_phase, phase_of, phase_of_old, old_phase_of, phase_in, least_below, released, abandoned, settled}
-use Rattle.keystore.specs.Kept.{IsOlder, IsPast, IsKeyed, IsKept}
-use Rattle.keystore.specs.Moves.{is_out}
-use Rattle.keystore.proofs.Items.{all_weaker, all_push, all_edited}
+use Rattle.keystore.specs.Lists.{first, edited}
+use Rattle.keystore.specs.Rings.{ClientKeys, is_key, rotated, marked, without, swept_key, swept_phase, phase_of, phase_of_old, old_phase_of}
+use Rattle.keystore.proofs.Items.{all_push, all_edited}
 
 -- ---- one client
 

@@ -1,14 +1,14 @@
 -- What the calls on clients answer, and what they leave.
-use Rattle.std.proofs.Common.{◌≡◌, ◌≢◌, ℕ, ◌<◌, ◌≤◌, ◌+◌, ◌-◌, ◌^◌, ◌⊎◌, ◌||◌, nat_le, ◌==◌, Bool, true, false, if◌then◌else◌, List, [], ◌∷◌, ◌++◌, length, get_or, set, Option, Some, None, Result, Ok, Err, is_some, refl, ap, sym, subst, ◌∙◌, arith, inl, inr}
+use Rattle.std.proofs.Common.{◌≡◌, ◌≢◌, ℕ, ◌<◌, ◌≤◌, ◌+◌, ◌-◌, ◌^◌, ◌⊎◌, ◌||◌, nat_le, true, false, List, [], ◌∷◌, length, get_or, set, Some, Ok, Err, refl, ap, sym, subst, ◌∙◌, arith, inl, inr}
 use Rattle.std.specs.List.{insert}
 use Rattle.std.proofs.lemmas.Bool.Decides.{nat_tests}
 use Rattle.keystore.specs.declared.refusals.AddRefusal.TheVariants as no_add
 use Rattle.keystore.specs.declared.refusals.RotateRefusal.TheVariants as no_rotation
 use Rattle.keystore.specs.declared.keys.NewKeys.{NewKeys}
-use Rattle.keystore.specs.Lists.{first, edited}
-use Rattle.keystore.specs.Rings.{ClientKeys, RingState, client_of, is_named, added, changed, rotated}
-use Rattle.keystore.specs.Answers.{Answers, is_last, add_refusal, new_client, with_client, full_or_last, rotate_refusal, rotate_refusal_of, with_rotation}
-use Rattle.keystore.specs.Places.{Stands, Fits, IsClientAt}
+use Rattle.keystore.specs.Lists.{first}
+use Rattle.keystore.specs.Rings.{ClientKeys, RingState, is_named, changed, rotated}
+use Rattle.keystore.specs.Answers.{Answers, is_last, add_refusal, new_client, with_client, full_or_last, rotate_refusal, with_rotation}
+use Rattle.keystore.specs.Places.{Fits, IsClientAt}
 use Rattle.keystore.proofs.Items.{first_at, edited_none}
 use Rattle.keystore.proofs.Names.{stands_at, absent, added_at}
 use Rattle.keystore.proofs.Edits.{edit_sets}

@@ -1,5 +1,5 @@
 -- What the ring's calls answer.
-use Rattle.std.specs.Prelude.{ℕ, ◌≡◌, ◌==◌, ◌^◌, ◌-◌, ◌+◌, nat_le, nat_lt, ◌||◌, Bool, true, false, if◌then◌else◌, List, [], ◌∷◌, ◌++◌, length, Option, Some, None, Result, Ok, Err, is_some}
+use Rattle.std.specs.Prelude.{ℕ, ◌≡◌, ◌==◌, ◌^◌, ◌-◌, ◌+◌, nat_le, ◌||◌, Bool, false, if◌then◌else◌, List, [], ◌∷◌, ◌++◌, length, Option, Some, None, Result, Ok, Err, is_some}
 use Rattle.keystore.specs.declared.phase.Phase.{Phase}
 use Rattle.keystore.specs.declared.phase.Phase.TheVariants as phases
 use Rattle.keystore.specs.declared.refusals.AddRefusal.{AddRefusal}

@@ -1,6 +1,6 @@
 -- Where an item stands in a list.
 use Rattle.std.specs.Prelude.{ℕ, ◌≡◌, ◌<◌, ◌≤◌, Bool, true, false, List, length, slice_index_or, Option, Some, None, Result, Ok, Err}
-use Rattle.std.specs.declared.cmp.Ordering.TheVariants.{Less, Equal, Greater}
+use Rattle.std.specs.declared.cmp.Ordering.TheVariants.{Less, Greater}
 use Rattle.keystore.specs.Lists.{first}
 use Rattle.keystore.specs.Rings.{ClientKeys, name_cmp}
 

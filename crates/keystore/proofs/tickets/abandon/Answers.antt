@@ -1,4 +1,4 @@
-use Rattle.std.proofs.Common.{[], ◌∷◌, true, sym, ◌∙◌}
+use Rattle.std.proofs.Common.{[], ◌∷◌, true, sym}
 use Rattle.keystore.specs.Rings.{is_ticket}
 use Rattle.keystore.proofs.Items.{edited_none}
 use Rattle.keystore.proofs.Edits.{abandon_sets}

@@ -1,5 +1,4 @@
 use Rattle.std.proofs.Common.{sym, ◌∙◌}
-use Rattle.keystore.specs.declared.tickets.Ticket.{Ticket}
 use Rattle.keystore.specs.Rings.{is_ticket}
 use Rattle.keystore.proofs.Items.{edited_none}
 use Rattle.keystore.proofs.Edits.{release_drops, release_stays}

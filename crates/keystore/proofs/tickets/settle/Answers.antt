@@ -1,5 +1,5 @@
-use Rattle.std.proofs.Common.{sym, ap, ◌∙◌}
-use Rattle.keystore.specs.Rings.{is_ticket, abandons}
+use Rattle.std.proofs.Common.{sym, ◌∙◌}
+use Rattle.keystore.specs.Rings.{is_ticket}
 use Rattle.keystore.proofs.Items.{edited_none}
 use Rattle.keystore.proofs.Edits.{settle_drops, settle_stays, told_here}
 use Rattle.keystore.proofs.tickets.settle.Goals as goal

@@ -1,7 +1,6 @@
-use Rattle.std.proofs.Common.{◌≡◌, ◌≤◌, ◌<◌, length, sym, ◌∙◌, ap, inl, inr, rules, arith}
+use Rattle.std.proofs.Common.{◌≤◌, ◌<◌, length, sym, ◌∙◌, ap, inl, inr, rules}
 use Rattle.std.specs.List.{insert}
 use Rattle.keystore.proofs.Keeping.{kept_added}
-use Rattle.keystore.specs.Rings.{ClientKeys, RingState}
 use Rattle.keystore.specs.Answers.{new_client}
 use Rattle.keystore.proofs.Steps.{add_exists, add_many, add_no_memory, add_done, add_leaves}
 use Rattle.keystore.proofs.Names.{added_at}

@@ -1,4 +1,4 @@
-use Rattle.std.proofs.Common.{◌≡◌, Option, Some, None, List, refl, ap, sym, subst, ◌∙◌}
+use Rattle.std.proofs.Common.{◌≡◌, Option, Some, None, ap, sym, subst, ◌∙◌}
 use Rattle.keystore.specs.Rings.{ClientKeys, RingState, client_of, is_named}
 use Rattle.keystore.proofs.Items.{first_at}
 use Rattle.keystore.proofs.Names.{stands_at, absent}

@@ -1,4 +1,3 @@
-use Rattle.std.proofs.Common.{refl}
 use Rattle.keystore.specs.Rings.{RingState, without}
 use Rattle.keystore.proofs.Keeping.{kept_retired}
 use Rattle.keystore.proofs.Steps.{change_leaves, change_nobody, set_changed}

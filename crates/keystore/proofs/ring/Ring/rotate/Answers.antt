@@ -1,4 +1,4 @@
-use Rattle.std.proofs.Common.{◌≡◌, ◌≤◌, ◌<◌, length, sym, ◌∙◌, ap, inl, inr, rules, arith}
+use Rattle.std.proofs.Common.{◌≤◌, ◌<◌, length, inl, inr, arith}
 use Rattle.keystore.proofs.Keeping.{kept_rotated}
 use Rattle.keystore.specs.Rings.{rotated}
 use Rattle.keystore.proofs.Steps.{rotate_nobody, rotate_many, rotate_no_memory, rotate_done, rotate_leaves, rotate_found, set_changed}

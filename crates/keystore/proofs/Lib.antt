@@ -1,0 +1,10 @@
+pub mod Items
+pub mod Names
+pub mod Keeping
+pub mod Edits
+pub mod Steps
+pub mod Least
+pub mod Moving
+pub mod Staying
+pub mod Leased
+pub mod Apart

@@ -1,0 +1,6 @@
+//! Reading tokens as statements.
+#![tactic(auto)]
+
+mod cursor;
+mod made;
+mod stop;

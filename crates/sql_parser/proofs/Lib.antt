@@ -5,3 +5,4 @@ pub mod Sequences
 pub mod Led
 pub mod Columns
 pub mod Tests
+pub mod Conds

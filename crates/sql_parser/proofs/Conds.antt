@@ -136,7 +136,7 @@ neg_written (inl n) = refl
 neg_written (inr (inl d)) = refl
 neg_written (inr (inr x)) = refl
 
-cond0 : Cond
+pub cond0 : Cond
 cond0 = conditions.only conj0
 
 module _ (P : Reader Neg) (n l : ℕ) (p : At P neg_tokens (Apart goes_on) n l) (low : suc l ≤ n) where

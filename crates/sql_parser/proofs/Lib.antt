@@ -6,3 +6,5 @@ pub mod Led
 pub mod Columns
 pub mod Tests
 pub mod Conds
+pub mod Selects
+pub mod Texts

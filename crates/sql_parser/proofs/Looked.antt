@@ -95,7 +95,7 @@ look_word_only w (t.Sign s) u e = cc
 pub look_sign_finds : (s : Sign) (u : Unit {0}) → look_sign s (t.Sign s) ≡ Some u
 look_sign_finds s tt = ap (λ b. if b then Some tt else None) (nth_sign_self s)
 
-look_sign_only : (s : Sign) (token : Token) (u : Unit {0}) → look_sign s token ≡ Some u → token ≡ t.Sign s
+pub look_sign_only : (s : Sign) (token : Token) (u : Unit {0}) → look_sign s token ≡ Some u → token ≡ t.Sign s
 look_sign_only s (t.Sign v) u e = ap t.Sign (nth_sign_same v s (if_some (sign_number v == sign_number s) tt u e))
 look_sign_only w (t.Word v) u e = cc
 look_sign_only w (t.Name n q) u e = cc

@@ -126,7 +126,7 @@ module _ {A : Type 0} {P : Reader A} {tok : A → List Token} {Ends : List Token
   first_ends [] rest ends = ends.0
   first_ends (y ∷ more) rest ends = goes_on ((tok y.1 ++ flat_map (λ (y : Unit {0} × A). token ∷ tok y.1) more) ++ rest)
 
-  many_next : At (many test (both (one look) P)) (λ ys. flat_map (λ (y : Unit {0} × A). token ∷ tok y.1) ys) EndsParted n l
+  pub many_next : At (many test (both (one look) P)) (λ ys. flat_map (λ (y : Unit {0} × A). token ∷ tok y.1) ys) EndsParted n l
   many_next = many_at test (both (one look) P) (λ (y : Unit {0} × A). token ∷ tok y.1) Ends n l next_at low starts (λ y rest. goes_on (tok y.1 ++ rest))
 
   pub parted_at : At (parted test (one look) P) parted_tokens EndsParted n l

@@ -8,3 +8,5 @@ pub mod Tests
 pub mod Conds
 pub mod Selects
 pub mod Texts
+pub mod Wholes
+pub mod Outcomes

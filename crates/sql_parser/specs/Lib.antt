@@ -3,3 +3,5 @@ pub mod Looks
 pub mod Productions
 pub mod Reads
 pub mod Made
+pub mod Outside
+pub mod Outcome

@@ -3,4 +3,7 @@
 
 mod cursor;
 mod made;
+mod refusal;
 mod stop;
+
+pub use refusal::{ParseFault, SqlKind, SqlRefusal};

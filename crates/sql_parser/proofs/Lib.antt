@@ -10,3 +10,4 @@ pub mod Selects
 pub mod Texts
 pub mod Wholes
 pub mod Outcomes
+pub mod Dots

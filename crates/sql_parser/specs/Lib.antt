@@ -5,3 +5,4 @@ pub mod Reads
 pub mod Made
 pub mod Outside
 pub mod Outcome
+pub mod Passes

@@ -11,3 +11,4 @@ pub mod Texts
 pub mod Wholes
 pub mod Outcomes
 pub mod Dots
+pub mod Numbers

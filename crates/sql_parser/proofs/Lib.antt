@@ -1,2 +1,5 @@
 pub mod Exactly
 pub mod Choosing
+pub mod Steps
+pub mod Taken
+pub mod Named

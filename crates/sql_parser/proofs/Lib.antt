@@ -8,3 +8,6 @@ pub mod Tests
 pub mod Conds
 pub mod Selects
 pub mod Texts
+pub mod Steps
+pub mod Taken
+pub mod Named

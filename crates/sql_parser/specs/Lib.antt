@@ -3,3 +3,4 @@ pub mod Looks
 pub mod Productions
 pub mod Reads
 pub mod Made
+pub mod Cursor

@@ -6,8 +6,9 @@ use Rattle.sql_parser.specs.declared.stop.Stop.TheVariants as stop
 use Rattle.sql_parser.specs.Readers.{Read, Reader}
 
 -- given enough to go, reading gives this
-abbrev pub Reads : {A : Type 0} → Reader A → List Token → Read A → Type 0
-Reads p ts given = (enough : ℕ) × ((n : ℕ) → enough ≤ n → p n ts ≡ given)
+pub record Reads {A : Type 0} (p : Reader A) (ts : List Token) (given : Read A) : Type 0 where
+  pub enough : ℕ
+  pub gives : (n : ℕ) → enough ≤ n → p n ts ≡ given
 
 -- it found what is made of the part that is read, and left what follows; or it left what begins with the first token that does
 -- not fit

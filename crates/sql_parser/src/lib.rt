@@ -3,4 +3,5 @@
 
 mod cursor;
 mod made;
+mod parts;
 mod stop;

@@ -11,3 +11,6 @@ pub mod Texts
 pub mod Steps
 pub mod Taken
 pub mod Named
+pub mod Machine
+pub mod Stacked
+pub mod Held

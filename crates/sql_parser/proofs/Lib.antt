@@ -12,3 +12,9 @@ pub mod Wholes
 pub mod Outcomes
 pub mod Dots
 pub mod Numbers
+pub mod Steps
+pub mod Taken
+pub mod Named
+pub mod Machine
+pub mod Stacked
+pub mod Held

@@ -6,3 +6,5 @@ pub mod Made
 pub mod Outside
 pub mod Outcome
 pub mod Passes
+pub mod Cursor
+pub mod Levels

@@ -1,0 +1,97 @@
+//! Reading columns and values.
+
+ghost use Rattle.std.specs.Prelude.{map, pos, neg_ℤ};
+ghost use Rattle.sql_tree.specs.declared.condition.Operand.TheVariants as operand;
+ghost use Rattle.sql_tree.specs.Parts.{column_name, value_operand, left_operand};
+ghost use Rattle.sql_parser.specs.Reads.{Gives};
+ghost use Rattle.sql_parser.specs.Productions as productions;
+ghost use Rattle.sql_parser.specs.Cursor.{last_of};
+
+use crate::cursor::Cursor;
+use crate::stop::Stop;
+use acra_base::{Name, Sequence};
+use sql_tokens::{Keyword, Sign};
+use sql_tree::Operand;
+use std::alloc::Global;
+
+/// The column that begins with a name, which is the table's where a dot follows.
+pub(crate) fn read_column_rest(
+    alloc: Global,
+    cursor: &mut Cursor<'_>,
+    first: Name,
+) -> Result<Name, Stop>
+    ensures { Gives (last_of first) productions.column_rest cursor.old result cursor.new }
+{
+    if !cursor.eat_sign(Sign::Dot) {
+        return Ok(first);
+    }
+    cursor.name(alloc)
+}
+
+/// A column.
+pub(crate) fn read_column(alloc: Global, cursor: &mut Cursor<'_>) -> Result<Name, Stop>
+    ensures { Gives column_name productions.column cursor.old result cursor.new }
+{
+    let first = cursor.name(alloc)?;
+    read_column_rest(alloc, cursor, first)
+}
+
+/// A string.
+pub(crate) fn read_text(alloc: Global, cursor: &mut Cursor<'_>) -> Result<Operand, Stop>
+    ensures { Gives operand.Text productions.text cursor.old result cursor.new }
+{
+    let text = cursor.text(alloc)?;
+    Ok(Operand::Text(text))
+}
+
+/// A number.
+pub(crate) fn read_number(cursor: &mut Cursor<'_>) -> Result<Operand, Stop>
+    ensures { Gives (λ n. operand.Number (pos n)) productions.number cursor.old result cursor.new }
+{
+    let number = cursor.number()?;
+    Ok(Operand::Number(number as i128))
+}
+
+/// A number behind a minus.
+pub(crate) fn read_negated(cursor: &mut Cursor<'_>) -> Result<Operand, Stop>
+    ensures { Gives (λ n. operand.Number (neg_ℤ (pos n))) productions.number cursor.old result cursor.new }
+{
+    let number = cursor.number()?;
+    Ok(Operand::Number(-(number as i128)))
+}
+
+fn read_null(cursor: &mut Cursor<'_>) -> Result<Operand, Stop>
+    ensures { Gives (λ _. operand.NullValue) (productions.word_reader Keyword.Null) cursor.old result cursor.new }
+{
+    cursor.word(Keyword::Null)?;
+    Ok(Operand::NullValue)
+}
+
+fn read_parameter(cursor: &mut Cursor<'_>) -> Result<Operand, Stop>
+    ensures { Gives operand.Parameter productions.parameter cursor.old result cursor.new }
+{
+    let number = cursor.parameter()?;
+    Ok(Operand::Parameter(number))
+}
+
+/// A value.
+pub(crate) fn read_value(alloc: Global, cursor: &mut Cursor<'_>) -> Result<Operand, Stop>
+    ensures { Gives value_operand productions.value cursor.old result cursor.new }
+{
+    if cursor.is_text() {
+        return read_text(alloc, cursor);
+    }
+    if cursor.is_number() {
+        return read_number(cursor);
+    }
+    if cursor.eat_sign(Sign::Plus) {
+        return read_number(cursor);
+    }
+    if cursor.eat_sign(Sign::Minus) {
+        return read_negated(cursor);
+    }
+    if cursor.is_word(Keyword::Null) {
+        return read_null(cursor);
+    }
+    read_parameter(cursor)
+}

@@ -18,3 +18,4 @@ pub mod Named
 pub mod Machine
 pub mod Stacked
 pub mod Held
+pub mod Parsed

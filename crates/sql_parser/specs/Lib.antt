@@ -8,3 +8,4 @@ pub mod Outcome
 pub mod Passes
 pub mod Cursor
 pub mod Levels
+pub mod Laws

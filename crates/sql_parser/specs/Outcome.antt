@@ -70,10 +70,10 @@ Outcome = Result Statement SqlRefusal
 abbrev pub IsOutcome : List ℕ → ℕ → Outcome → Type 0
 IsOutcome text limit (Ok tree) = (length text ≤ limit) × SpelledAs text true tree
 IsOutcome text limit (Err r) = elim (r.kind) [
-    | kind.TooLong ↦ (limit < length text) × (r.place ≡ limit)
-    | kind.OutsideProfile ↦ (length text ≤ limit) × IsOutside text r.place
-    | kind.Syntax ↦ (length text ≤ limit) × IsMisspelled text r.place
-    | kind.TooDeep ↦ (length text ≤ limit) × (r.place ≡ length text) × ((tree : Statement) × SpelledAs text false tree)
+  | kind.TooLong ↦ (limit < length text) × (r.place ≡ limit)
+  | kind.OutsideProfile ↦ (length text ≤ limit) × IsOutside text r.place
+  | kind.Syntax ↦ (length text ≤ limit) × IsMisspelled text r.place
+  | kind.TooDeep ↦ (length text ≤ limit) × (r.place ≡ length text) × ((tree : Statement) × SpelledAs text false tree)
 ]
 
 -- an answer that tells the outcome, or want of memory

@@ -4,10 +4,15 @@
 mod comparison;
 mod conditions;
 mod cursor;
+mod laws;
 mod levels;
 mod made;
-mod refusal;
+mod outside;
+mod parsing;
 mod parts;
+mod refusal;
 mod stop;
 
+pub use laws::{canonical_text_is_parsed, one_outcome, one_statement};
+pub use parsing::parse;
 pub use refusal::{ParseFault, SqlKind, SqlRefusal};

@@ -1,8 +1,12 @@
 pub mod Known
+pub mod Pieces
 pub mod Grows
 pub mod Causes
 pub mod Wires
 pub mod Memory
+pub mod Shelves
+pub mod Keepers
+pub mod Seeding
 pub mod Names
 pub mod Padded
 pub mod Client

@@ -8,8 +8,8 @@ pub mod Shelves
 pub mod Keepers
 pub mod Seeding
 pub mod Names
-pub mod Padded
 pub mod Client
+pub mod Padded
 pub mod Draws
 pub mod Seal
 pub mod Opening

@@ -19,3 +19,5 @@ pub mod Machine
 pub mod Stacked
 pub mod Held
 pub mod Parsed
+pub mod Possible
+pub mod Wellformed

@@ -18,3 +18,7 @@ OneStatement = (text : List ℕ) (a b : Statement) → TextSpells text a → Tex
 -- the canonical text of a statement whose nodes stand at most 64 deep is parsed to that statement, where the limit allows
 abbrev pub CanonicalTextIsParsed : Type 0
 CanonicalTextIsParsed = (tree : Statement) → IsStatement tree → statement_depth tree ≤ 64 → (limit : ℕ) → length (canon tree) ≤ limit → IsOutcome (canon tree) limit (Ok tree)
+
+-- what a text spells is a statement that has a text
+abbrev pub SpelledIsStatement : Type 0
+SpelledIsStatement = (text : List ℕ) (tree : Statement) → TextSpells text tree → IsStatement tree

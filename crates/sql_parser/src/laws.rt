@@ -1,4 +1,4 @@
-ghost use Rattle.sql_parser.specs.Laws.{OneOutcome, OneStatement, CanonicalTextIsParsed};
+ghost use Rattle.sql_parser.specs.Laws.{OneOutcome, OneStatement, CanonicalTextIsParsed, SpelledIsStatement};
 
 /// A text has one outcome: its statement, or its refusal with the place.
 pub fn one_outcome()
@@ -13,4 +13,9 @@ pub fn one_statement()
 /// The canonical text of a statement is parsed to that statement.
 pub fn canonical_text_is_parsed()
     ensures { CanonicalTextIsParsed }
+{}
+
+/// What a text spells is a statement that has a text.
+pub fn spelled_is_statement()
+    ensures { SpelledIsStatement }
 {}

@@ -13,6 +13,6 @@ mod parts;
 mod refusal;
 mod stop;
 
-pub use laws::{canonical_text_is_parsed, one_outcome, one_statement};
+pub use laws::{canonical_text_is_parsed, one_outcome, one_statement, spelled_is_statement};
 pub use parsing::parse;
 pub use refusal::{ParseFault, SqlKind, SqlRefusal};

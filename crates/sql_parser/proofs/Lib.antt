@@ -3,3 +3,5 @@ pub mod Choosing
 pub mod Steps
 pub mod Taken
 pub mod Named
+pub mod Shrinking
+pub mod Lists

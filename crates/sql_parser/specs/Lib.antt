@@ -4,3 +4,4 @@ pub mod Productions
 pub mod Reads
 pub mod Made
 pub mod Cursor
+pub mod Tests

@@ -1,6 +1,7 @@
 //! Reading tokens as statements.
 #![tactic(auto)]
 
+mod comparison;
 mod cursor;
 mod made;
 mod parts;

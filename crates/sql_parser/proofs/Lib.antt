@@ -5,3 +5,4 @@ pub mod Taken
 pub mod Named
 pub mod Shrinking
 pub mod Lists
+pub mod Chosen

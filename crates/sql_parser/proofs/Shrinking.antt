@@ -118,6 +118,9 @@ one_less look {ts} {r} {a} k = one_less_at look k.enough ts r a (k.gives k.enoug
 pub name_less : {ts r : List Token} {a : Spelled} → Reads name ts (Ok (a, r)) → length r < length ts
 name_less k = one_less look_name k
 
+pub name_within : {ts r : List Token} {a : Spelled} → Reads name ts (Ok (a, r)) → length r ≤ length ts
+name_within k = let less = name_less k in omega arith
+
 pub value_within : {ts r : List Token} {a : Value} → Reads value ts (Ok (a, r)) → length r ≤ length ts
 value_within k = left_within value _ _ _ value_shrinks k
 

@@ -146,6 +146,10 @@ ended_left test {p} q {old} {new} {given} e = ended_by p (either test p q) old o
 pub ended_right : {A B W : Type 0} (test : Token → Bool) (p : Reader A) {q : Reader B} {old new : List Token} {given : Result W Stop} → false ≡ begins test old → Ended q old given new → Ended (either test p q) old given new
 ended_right test p {q} {old} {new} {given} e = ended_by q (either test p q) old old new given (λ k. right_err test p e k)
 
+-- where a call that went past nothing told so
+pub ended_right_at : {A B W : Type 0} (test : Token → Bool) (p : Reader A) {q : Reader B} {old mid new : List Token} {given : Result W Stop} → mid ≡ old → false ≡ begins test old → Ended q mid given new → Ended (either test p q) old given new
+ended_right_at {W = W} test p {q} {old} {mid} {new} {given} is e h = ended_right test p e (subst (λ (ts : List Token). Ended q ts given new) is h)
+
 pub ended_some : {A W : Type 0} (test : Token → Bool) {p : Reader A} {old new : List Token} {given : Result W Stop} → true ≡ begins test old → Ended p old given new → Ended (optionally test p) old given new
 ended_some test {p} {old} {new} {given} e = ended_by p (optionally test p) old old new given (λ k. some_err test e k)
 

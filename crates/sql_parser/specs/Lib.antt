@@ -5,3 +5,4 @@ pub mod Reads
 pub mod Made
 pub mod Cursor
 pub mod Tests
+pub mod Clauses

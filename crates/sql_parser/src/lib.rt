@@ -2,7 +2,10 @@
 #![tactic(auto)]
 
 mod comparison;
+mod conditions;
 mod cursor;
+mod items;
 mod made;
 mod parts;
+mod statements;
 mod stop;

@@ -28,4 +28,4 @@ pub returns : goal.returns
 returns c =
     let list = c.more.invariant in
     let first = c.in_ok-first.ensures in
-    (some_of (first.0, list.more), listing_all _ _ _ _ _ _ _ first.1 c.new-values.ensures c.in_ok-push.ensures.ok list.is, seen_ok _ (both_ok first.2 (listing_ends list c.more-test.ensures.0 c.more-test.ensures.1)))
+    (some_of (first.0, list.more), listing_all _ _ first.0 _ _ _ _ first.1 c.new-values.ensures c.in_ok-push.ensures.ok list.is, seen_ok _ (both_ok first.2 (listing_ends list c.more-test.ensures.0 c.more-test.ensures.1)))

@@ -14,3 +14,6 @@ pub mod Named
 pub mod Machine
 pub mod Stacked
 pub mod Held
+pub mod Shrinking
+pub mod Lists
+pub mod Chosen

@@ -5,3 +5,5 @@ pub mod Reads
 pub mod Made
 pub mod Cursor
 pub mod Levels
+pub mod Tests
+pub mod Clauses

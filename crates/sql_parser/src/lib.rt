@@ -4,7 +4,9 @@
 mod comparison;
 mod conditions;
 mod cursor;
+mod items;
 mod levels;
 mod made;
 mod parts;
+mod statements;
 mod stop;

@@ -1,8 +1,8 @@
 -- What the stack holds of a condition, and how deep it is, step by step.
-use Rattle.std.proofs.Common.{◌≡◌, ℕ, zero, suc, ◌+◌, ◌-◌, ◌≤◌, ◌<◌, max, Bool, true, false, List, [], ◌∷◌, ◌++◌, map, refl, sym, ap, ◌∙◌, subst, arith, add-one, reverse, length, length-append}
+use Rattle.std.proofs.Common.{◌≡◌, ℕ, zero, suc, ◌+◌, ◌-◌, ◌≤◌, max, Bool, true, false, List, [], ◌∷◌, ◌++◌, map, refl, sym, ap, ◌∙◌, subst, arith, add-one, reverse, length, length-append}
 use Rattle.std.proofs.lemmas.Bool.{le-leb, leb-true}
 use Rattle.std.proofs.lemmas.List.{reverse-append}
-use Rattle.std.specs.Prelude.{nat_le, if◌then◌else◌, Result, Ok, Err}
+use Rattle.std.specs.Prelude.{nat_le, if◌then◌else◌, Ok, Err}
 use Rattle.sql_tokens.specs.declared.keyword.Keyword.TheVariants as word
 use Rattle.sql_tokens.specs.declared.sign.Sign.TheVariants as sign
 use Rattle.sql_tokens.specs.declared.token.Token.{Token}
@@ -20,7 +20,7 @@ use Rattle.sql_parser.specs.declared.made.Nested.{Nested}
 use Rattle.sql_parser.specs.Made.{nested}
 use Rattle.sql_parser.specs.Productions.{word_reader, sign_reader, cond, test}
 use Rattle.sql_parser.specs.Reads.{Reads, Gives}
-use Rattle.sql_parser.specs.Levels.{Parts, nothing, conj_from, cond_from, nots_before, nots_of, conj_tree, held, most, parts_open, base, reached, Owes, OwesRest, level_nots, parts_nots, Stands, Before, Behind, IsRead, Settles, kept_as}
+use Rattle.sql_parser.specs.Levels.{Parts, nothing, conj_from, cond_from, nots_before, nots_of, conj_tree, held, most, parts_open, base, reached, OwesRest, level_nots, parts_nots, Before, Behind, IsRead, Settles, kept_as}
 use Rattle.sql_parser.proofs.Exactly.{if_false}
 use Rattle.sql_parser.proofs.Tests.{test_at}
 use Rattle.sql_parser.proofs.Machine.{whole_is}

@@ -21,3 +21,6 @@ pub mod Held
 pub mod Parsed
 pub mod Possible
 pub mod Wellformed
+pub mod Shrinking
+pub mod Lists
+pub mod Chosen

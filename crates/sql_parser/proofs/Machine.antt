@@ -1,17 +1,17 @@
 -- Reading conditions by parts, given enough to go, however deep and however far.
-use Rattle.std.proofs.Common.{◌≡◌, ◌⊎◌, ℕ, zero, suc, ◌+◌, ◌≤◌, ◌<◌, max, Bool, true, false, List, [], ◌∷◌, ◌++◌, map, length, refl, sym, ap, ◌∙◌, arith, inl, inr}
-use Rattle.std.specs.Prelude.{Option, Some, None, is_some, Result, Ok, Err, if◌then◌else◌}
+use Rattle.std.proofs.Common.{◌≡◌, ◌⊎◌, ℕ, zero, suc, ◌+◌, ◌≤◌, ◌<◌, true, false, List, [], ◌∷◌, length, refl, sym, ap, ◌∙◌, arith, inl, inr}
+use Rattle.std.specs.Prelude.{Option, Some, None, Ok, Err, if◌then◌else◌}
 use Rattle.sql_tokens.specs.declared.keyword.Keyword.{Keyword}
 use Rattle.sql_tokens.specs.declared.keyword.Keyword.TheVariants as word
 use Rattle.sql_tokens.specs.declared.sign.Sign.TheVariants as sign
 use Rattle.sql_tokens.specs.declared.token.Token.{Token}
 use Rattle.sql_tree.specs.Conditions as conditions
 use Rattle.sql_tree.specs.Conditions.{Cond, Conj, Neg, Test}
-use Rattle.sql_parser.specs.Readers.{Read, Reader, after, begins, found, one, both, either, repeated, many, seen_as, parted}
+use Rattle.sql_parser.specs.Readers.{Read, Reader, after, begins, found, one, both, repeated, many, seen_as, parted}
 use Rattle.sql_parser.specs.Looks.{is_word, is_sign, look_word, look_sign}
-use Rattle.sql_parser.specs.Productions.{word_reader, sign_reader, conj_of, cond_of, conj, disjunction, neg_of, neg_by, neg, cond, test}
+use Rattle.sql_parser.specs.Productions.{word_reader, sign_reader, conj_of, cond_of, conj, disjunction, neg_of, neg, cond, test}
 use Rattle.sql_parser.specs.Reads.{Reads}
-use Rattle.sql_parser.specs.Levels.{Parts, nothing, conj_from, cond_from, nots_before, Wide, WideMany, negs, conjs, conds, Rest, nots_read, LevelIs, closed, Finish, Owes, OwesRest}
+use Rattle.sql_parser.specs.Levels.{Wide, WideMany, negs, conds, Rest, closed}
 use Rattle.sql_parser.proofs.Exactly.{if_true, if_false, pair_same}
 
 -- ---- one token

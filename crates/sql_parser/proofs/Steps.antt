@@ -9,7 +9,11 @@ use Rattle.sql_parser.specs.Readers.{Read, Reader, after, begins, found, one, bo
 use Rattle.sql_parser.specs.Reads.{Reads, Gives}
 use Rattle.sql_parser.specs.declared.stop.Stop.{Stop}
 use Rattle.sql_parser.specs.declared.stop.Stop.TheVariants as stop
-use Rattle.sql_parser.specs.Cursor.{is_one}
+use Rattle.sql_parser.specs.Cursor.{is_one, EatsCall}
+use Rattle.sql_parser.specs.Looks.{is_call, is_sign}
+use Rattle.sql_parser.specs.Productions.{name, led}
+use Rattle.sql_tree.specs.Parts.{Spelled}
+use Rattle.sql_tokens.specs.declared.sign.Sign.TheVariants as sign
 use Rattle.sql_parser.proofs.Exactly.{if_true, if_false}
 
 -- ---- one token
@@ -111,17 +115,54 @@ abbrev pub Fails : {D : Type 0} → Reader D → List Token → Stop → List To
 Fails p old stop.Syntax new = Reads p old (Err new)
 Fails p old stop.NoMemory new = Unit {0}
 
-ends : {D E W : Type 0} (p : Reader D) (made' : E → W) (q : Reader E) (mid old new : List Token) (e : Stop)
-    → Fails p mid e new → (Reads p mid (Err new) → Reads q old (Err new)) → Gives made' q old (Err e) new
-ends p made' q mid old new stop.Syntax h f = f h
-ends p made' q mid old new stop.NoMemory h f = tt
+-- a call of `?` that returned what its part stopped with
+pub record Ended {D W : Type 0} (p : Reader D) (old : List Token) (given : Result W Stop) (new : List Token) : Type 0 where
+  pub stop : Stop
+  pub is : given ≡ Err stop
+  pub by : Fails p old stop new
 
--- it stopped where its part stopped
-pub stopped : {D E W : Type 0} (p : Reader D) (made' : E → W) (q : Reader E) (mid old new : List Token) (e : Stop) (given : Result W Stop)
-    → IsErrAnd given (λ f. f ≡ e) → Fails p mid e new → (Reads p mid (Err new) → Reads q old (Err new)) → Gives made' q old given new
-stopped {W = W} p made' q mid old new e given is h f =
-    let g = err_from_is_err_and given is in
-    subst (λ (r : Result W Stop). Gives made' q old r new) (sym (g.1 ∙ ap Err g.2)) (ends p made' q mid old new e h f)
+pub ended : {D W : Type 0} (p : Reader D) (old new : List Token) (e : Stop) (given : Result W Stop) → IsErrAnd given (λ f. f ≡ e) → Fails p old e new → Ended p old given new
+ended p old new e given is h = let g = err_from_is_err_and given is in record { stop = e; is = g.1 ∙ ap Err g.2; by = h }
+
+fails_by : {D E : Type 0} (p : Reader D) (q : Reader E) (mid old new : List Token) (e : Stop) → (Reads p mid (Err new) → Reads q old (Err new)) → Fails p mid e new → Fails q old e new
+fails_by p q mid old new stop.Syntax f h = f h
+fails_by p q mid old new stop.NoMemory f h = tt
+
+pub ended_by : {D E W : Type 0} (p : Reader D) (q : Reader E) (mid old new : List Token) (given : Result W Stop) → (Reads p mid (Err new) → Reads q old (Err new)) → Ended p mid given new → Ended q old given new
+ended_by p q mid old new given f h = record { stop = h.stop; is = h.is; by = fails_by p q mid old new h.stop f h.by }
+
+pub ended_seen : {A B W : Type 0} (f : A → B) {p : Reader A} {old new : List Token} {given : Result W Stop} → Ended p old given new → Ended (seen_as f p) old given new
+ended_seen f {p} {old} {new} {given} = ended_by p (seen_as f p) old old new given (λ k. seen_err f k)
+
+pub ended_first : {A B W : Type 0} {p : Reader A} (q : Reader B) {old new : List Token} {given : Result W Stop} → Ended p old given new → Ended (both p q) old given new
+ended_first {p = p} q {old} {new} {given} = ended_by p (both p q) old old new given (λ k. both_first q k)
+
+pub ended_second : {A B W : Type 0} {p : Reader A} {q : Reader B} {a : A} {old mid new : List Token} {given : Result W Stop} → Reads p old (Ok (a, mid)) → Ended q mid given new → Ended (both p q) old given new
+ended_second {p = p} {q} {old = old} {mid} {new} {given} h = ended_by q (both p q) mid old new given (λ k. both_second h k)
+
+pub ended_left : {A B W : Type 0} (test : Token → Bool) {p : Reader A} (q : Reader B) {old new : List Token} {given : Result W Stop} → true ≡ begins test old → Ended p old given new → Ended (either test p q) old given new
+ended_left test {p} q {old} {new} {given} e = ended_by p (either test p q) old old new given (λ k. left_err test q e k)
+
+pub ended_right : {A B W : Type 0} (test : Token → Bool) (p : Reader A) {q : Reader B} {old new : List Token} {given : Result W Stop} → false ≡ begins test old → Ended q old given new → Ended (either test p q) old given new
+ended_right test p {q} {old} {new} {given} e = ended_by q (either test p q) old old new given (λ k. right_err test p e k)
+
+-- where a call that went past nothing told so
+pub ended_right_at : {A B W : Type 0} (test : Token → Bool) (p : Reader A) {q : Reader B} {old mid new : List Token} {given : Result W Stop} → mid ≡ old → false ≡ begins test old → Ended q mid given new → Ended (either test p q) old given new
+ended_right_at {W = W} test p {q} {old} {mid} {new} {given} is e h = ended_right test p e (subst (λ (ts : List Token). Ended q ts given new) is h)
+
+pub ended_some : {A W : Type 0} (test : Token → Bool) {p : Reader A} {old new : List Token} {given : Result W Stop} → true ≡ begins test old → Ended p old given new → Ended (optionally test p) old given new
+ended_some test {p} {old} {new} {given} e = ended_by p (optionally test p) old old new given (λ k. some_err test e k)
+
+gives_err : {E W : Type 0} (made : E → W) (p : Reader E) (old new : List Token) (e : Stop) → Fails p old e new → Gives made p old (Err e) new
+gives_err made p old new stop.Syntax h = h
+gives_err made p old new stop.NoMemory h = tt
+
+pub gives_ended : {D W : Type 0} (made : D → W) (p : Reader D) (old new : List Token) (given : Result W Stop) → Ended p old given new → Gives made p old given new
+gives_ended {W = W} made p old new given h = subst (λ (r : Result W Stop). Gives made p old r new) (sym h.is) (gives_err made p old new h.stop h.by)
+
+-- it found what its last part found
+pub gives_done : {D V : Type 0} (made : D → V) (p : Reader D) (old new : List Token) (d : D) (v : V) → Reads p old (Ok (d, new)) → v ≡ made d → Gives made p old (Ok v) new
+gives_done made p old new d v h e = (d, e, h)
 
 -- a call's last part gives what the call gives
 pub gives_by : {D E V : Type 0} (made : D → V) (made' : E → V) (p : Reader D) (q : Reader E) (mid old new : List Token) (given : Result V Stop) (f : D → E)
@@ -131,8 +172,8 @@ gives_by made made' p q mid old new (Ok v) f same ok err h = (f h.0, h.1 ∙ sam
 gives_by made made' p q mid old new (Err stop.Syntax) f same ok err h = err h
 gives_by made made' p q mid old new (Err stop.NoMemory) f same ok err h = tt
 
-pub gives_ok : {D V : Type 0} (made : D → V) (p : Reader D) (old new : List Token) (d : D) → Reads p old (Ok (d, new)) → Gives made p old (Ok (made d)) new
-gives_ok made p old new d h = (d, refl, h)
+pub gives_same : {D V : Type 0} (made made' : D → V) (p : Reader D) (old new : List Token) (given : Result V Stop) → ((d : D) → made d ≡ made' d) → Gives made p old given new → Gives made' p old given new
+gives_same made made' p old new given e h = gives_by made made' p p old old new given (λ d. d) e (λ d k. k) (λ k. k) h
 
 module _ {A B V : Type 0} (made : B → V) (f : A → B) (p : Reader A) (old new : List Token) (given : Result V Stop) where
   pub gives_seen : Gives (λ a. made (f a)) p old given new → Gives made (seen_as f p) old given new
@@ -165,4 +206,65 @@ behind_ok h k = seen_ok (λ x. x.1) (both_ok h k)
 pub behind_err : {A B : Type 0} {s : Reader A} {q : Reader B} {ts r u : List Token} {a : A} → Reads s ts (Ok (a, r)) → Reads q r (Err u) → Reads (seen_as (λ x. x.1) (both s q)) ts (Err u)
 behind_err h k = seen_err (λ x. x.1) (both_second h k)
 
+-- for a last call whose result is returned
 pub ruleset gives = (gives_seen, gives_left, gives_right, gives_right_at, gives_then, gives_some)
+
+-- ---- by whether a name is the word of a call
+
+abbrev led_rest : {A B : Type 0} → List ℕ → Reader A → Reader B → ℕ → Spelled → List Token → Read (A ⊎ (Spelled × B))
+led_rest call p q n s r = if is_call call s && begins (is_sign sign.Open) r then after (λ a u. Ok (inl a, u)) (p n r) else after (λ b u. Ok (inr (s, b), u)) (q n r)
+
+at_name : (old mid r : List Token) (s : Spelled) → mid ≡ old → Reads name mid (Ok (s, r)) → Reads name old (Ok (s, r))
+at_name old mid r s e h = subst (λ (ts : List Token). Reads name ts (Ok (s, r))) e h
+
+module _ {A B : Type 0} {call : List ℕ} {p : Reader A} (q : Reader B) {old mid u : List Token} where
+  pub led_call_ok : {a : A} → EatsCall call old true mid → Reads p mid (Ok (a, u)) → Reads (led call p q) old (Ok (inl a, u))
+  led_call_ok w k = record {
+    enough = w.1.enough + k.enough;
+    gives = λ n le. ap (after (led_rest call p q n)) (w.1.gives n (omega arith)) ∙ if_true _ _ _ w.2 ∙ ap (after (λ a u. Ok (inl a, u))) (k.gives n (omega arith));
+  }
+
+  pub led_call_err : EatsCall call old true mid → Reads p mid (Err u) → Reads (led call p q) old (Err u)
+  led_call_err w k = record {
+    enough = w.1.enough + k.enough;
+    gives = λ n le. ap (after (led_rest call p q n)) (w.1.gives n (omega arith)) ∙ if_true _ _ _ w.2 ∙ ap (after (λ a u. Ok (inl a, u))) (k.gives n (omega arith));
+  }
+
+module _ {A B : Type 0} {call : List ℕ} (p : Reader A) {q : Reader B} {old mid r u : List Token} {s : Spelled} where
+  pub led_name_ok : {b : B} → EatsCall call old false mid → Reads name mid (Ok (s, r)) → Reads q r (Ok (b, u)) → Reads (led call p q) old (Ok (inr (s, b), u))
+  led_name_ok w h k =
+      let g = at_name old mid r s w.0 h in
+      record {
+        enough = g.enough + k.enough;
+        gives = λ n le. ap (after (led_rest call p q n)) (g.gives n (omega arith)) ∙ if_false _ _ _ (w.1 s r g) ∙ ap (after (λ b u. Ok (inr (s, b), u))) (k.gives n (omega arith));
+      }
+
+  pub led_name_err : EatsCall call old false mid → Reads name mid (Ok (s, r)) → Reads q r (Err u) → Reads (led call p q) old (Err u)
+  led_name_err w h k =
+      let g = at_name old mid r s w.0 h in
+      record {
+        enough = g.enough + k.enough;
+        gives = λ n le. ap (after (led_rest call p q n)) (g.gives n (omega arith)) ∙ if_false _ _ _ (w.1 s r g) ∙ ap (after (λ b u. Ok (inr (s, b), u))) (k.gives n (omega arith));
+      }
+
+module _ {A B : Type 0} {call : List ℕ} (p : Reader A) (q : Reader B) {old mid u : List Token} where
+  pub led_err : EatsCall call old false mid → Reads name mid (Err u) → Reads (led call p q) old (Err u)
+  led_err w h = let g = subst (λ (ts : List Token). Reads name ts (Err u)) w.0 h in record { enough = g.enough; gives = λ n le. ap (after (led_rest call p q n)) (g.gives n le) }
+
+-- the same for a call's last part, and at an exit of `?`
+module _ {A B V : Type 0} (made : A ⊎ (Spelled × B) → V) (call : List ℕ) (p : Reader A) (q : Reader B) (old mid new : List Token) (given : Result V Stop) where
+  pub gives_call : EatsCall call old true mid → Gives (λ a. made (inl a)) p mid given new → Gives made (led call p q) old given new
+  gives_call w = gives_by (λ a. made (inl a)) made p (led call p q) mid old new given inl (λ d. refl) (λ d k. led_call_ok q w k) (λ k. led_call_err q w k)
+
+  pub gives_name : (s : Spelled) (r : List Token) → EatsCall call old false mid → Reads name mid (Ok (s, r)) → Gives (λ b. made (inr (s, b))) q r given new → Gives made (led call p q) old given new
+  gives_name s r w h = gives_by (λ b. made (inr (s, b))) made q (led call p q) r old new given (λ b. inr (s, b)) (λ d. refl) (λ d k. led_name_ok p w h k) (λ k. led_name_err p w h k)
+
+pub ended_call : {A B W : Type 0} {call : List ℕ} {p : Reader A} (q : Reader B) {old mid new : List Token} {given : Result W Stop} → EatsCall call old true mid → Ended p mid given new → Ended (led call p q) old given new
+ended_call {call = call} {p} q {old} {mid} {new} {given} w = ended_by p (led call p q) mid old new given (λ k. led_call_err q w k)
+
+pub ended_name : {A B W : Type 0} {call : List ℕ} (p : Reader A) (q : Reader B) {old mid new : List Token} {given : Result W Stop} → EatsCall call old false mid → Ended name mid given new → Ended (led call p q) old given new
+ended_name {call = call} p q {old} {mid} {new} {given} w = ended_by name (led call p q) mid old new given (λ k. led_err p q w k)
+
+pub ended_behind : {A B W : Type 0} {call : List ℕ} (p : Reader A) {q : Reader B} {s : Spelled} {old mid r new : List Token} {given : Result W Stop}
+    → EatsCall call old false mid → Reads name mid (Ok (s, r)) → Ended q r given new → Ended (led call p q) old given new
+ended_behind {call = call} p {q} {old = old} {mid} {r} {new} {given} w h = ended_by q (led call p q) r old new given (λ k. led_name_err p w h k)

@@ -1,5 +1,5 @@
 -- Reading a condition with what is open on a stack: what was read so far, as derivations, and what of it the stack holds.
-use Rattle.std.specs.Prelude.{ℕ, nat_le, if◌then◌else◌, zero, suc, ◌+◌, ◌≡◌, ◌≤◌, ◌<◌, max, Bool, true, false, List, [], ◌∷◌, map, length, Option, Some, None, Result, Ok, Err}
+use Rattle.std.specs.Prelude.{ℕ, nat_le, if◌then◌else◌, zero, suc, ◌+◌, ◌≡◌, ◌≤◌, ◌<◌, max, List, [], ◌∷◌, map, length, Result, Ok, Err}
 use Rattle.sql_tokens.specs.declared.keyword.Keyword.{Keyword}
 use Rattle.sql_tokens.specs.declared.keyword.Keyword.TheVariants as word
 use Rattle.sql_tokens.specs.declared.sign.Sign.TheVariants as sign

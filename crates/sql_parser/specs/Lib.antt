@@ -9,3 +9,5 @@ pub mod Passes
 pub mod Cursor
 pub mod Levels
 pub mod Laws
+pub mod Tests
+pub mod Clauses

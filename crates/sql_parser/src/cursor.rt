@@ -55,6 +55,24 @@ fn is_sign(token: &Token, sign: Sign) -> bool
     }
 }
 
+fn begins_statement(token: &Token) -> bool
+    ensures { result ≡ productions.begins_body token.now }
+{
+    if is_word(token, Keyword::Select) {
+        return true;
+    }
+    if is_word(token, Keyword::Insert) {
+        return true;
+    }
+    if is_word(token, Keyword::Update) {
+        return true;
+    }
+    if is_word(token, Keyword::Delete) {
+        return true;
+    }
+    is_word(token, Keyword::Set)
+}
+
 fn op_of(token: &Token) -> Option<Op>
     ensures { result ≡ looks.look_op token.now }
 {
@@ -143,6 +161,16 @@ impl<'a> Cursor<'a> {
         ensures { result ≡ begins (λ t. is_some (looks.look_number t)) self.now }
     {
         matches!(self.first(), Some(Token::Number(_)))
+    }
+
+    /// Whether the first token is the word of a statement.
+    pub(crate) fn begins_statement(&self) -> bool
+        ensures { result ≡ begins productions.begins_body self.now }
+    {
+        match self.first() {
+            Some(token) => begins_statement(token),
+            None => false,
+        }
     }
 
     /// Goes past the first token where it is the word.

@@ -5,12 +5,14 @@ mod comparison;
 mod conditions;
 mod cursor;
 mod laws;
+mod items;
 mod levels;
 mod made;
 mod outside;
 mod parsing;
 mod parts;
 mod refusal;
+mod statements;
 mod stop;
 
 pub use laws::{canonical_text_is_parsed, one_outcome, one_statement, spelled_is_statement};

@@ -1,10 +1,5 @@
-use Rattle.std.proofs.Common.{◌≡◌, ◌∷◌, [], ◌++◌, ◌∙◌, refl, ap, sym, subst, arith, reverse, length}
+use Rattle.std.proofs.Common.{refl, sym, arith, reverse}
 use Rattle.std.proofs.lemmas.Result.{err_from_is_err_and}
-use Rattle.sql_tokens.specs.declared.keyword.Keyword.TheVariants as word
-use Rattle.sql_tokens.specs.declared.sign.Sign.TheVariants as sign
-use Rattle.sql_parser.specs.Levels.{Before, Behind}
-use Rattle.sql_parser.specs.Looks.{look_word, look_sign}
-use Rattle.sql_parser.proofs.Machine.{shorter}
 use Rattle.sql_parser.proofs.Held.{start_step, not_step, open_step, test_step, no_test_step, reverse_push, test_shorter, test_refused, settle_refused, kept_is}
 use Rattle.sql_parser.proofs.conditions.read_cond.Goals as goal
 

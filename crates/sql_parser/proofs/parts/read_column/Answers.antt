@@ -1,15 +1,11 @@
-use Rattle.std.proofs.Common.{◌≡◌, List, ℕ, refl, ◌∙◌}
-use Rattle.std.specs.Prelude.{Option, Some, None}
-use Rattle.sql_tree.specs.Parts.{Spelled, column_name}
-use Rattle.sql_parser.specs.Cursor.{last_of}
-use Rattle.sql_parser.specs.Productions.{column, column_of, column_rest}
-use Rattle.sql_parser.proofs.Steps.{stopped, seen_err, seen_ok, both_first, both_ok, both_second, gives_by}
+use Rattle.sql_parser.specs.Productions.{column, column_of}
+use Rattle.sql_parser.proofs.Steps.{gives_ended, ended, ended_seen, ended_first, seen_err, seen_ok, both_ok, both_second, gives_by}
 use Rattle.sql_parser.proofs.Named.{last_is}
 use Rattle.sql_parser.proofs.parts.read_column.Goals as goal
 
 pub returns-in_err-first : goal.returns-in_err-first
 unfolding column
-returns-in_err-first c = stopped _ _ _ _ _ _ _ _ c.from_residual.ensures.1 c.in_err-first.ensures (λ k. seen_err column_of (both_first column_rest k))
+returns-in_err-first c = gives_ended _ _ _ _ _ (ended_seen _ (ended_first _ (ended _ _ _ _ _ c.from_residual.ensures.1 c.in_err-first.ensures)))
 
 pub returns : goal.returns
 unfolding column

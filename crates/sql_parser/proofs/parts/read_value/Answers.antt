@@ -1,10 +1,6 @@
-use Rattle.std.proofs.Common.{refl}
-use Rattle.std.specs.Prelude.{Ok}
 use Rattle.sql_tree.specs.Parts as parts
-use Rattle.sql_tree.specs.declared.condition.Operand.TheVariants as operand
-use Rattle.sql_parser.specs.Reads.{Gives}
 use Rattle.sql_parser.specs.Productions.{value, value_of}
-use Rattle.sql_parser.proofs.Steps.{gives, gives_ok}
+use Rattle.sql_parser.proofs.Steps.{gives}
 use Rattle.sql_parser.proofs.parts.read_value.Goals as goal
 
 pub returns-then-is_text : goal.returns-then-is_text

@@ -6,3 +6,4 @@ pub mod Named
 pub mod Shrinking
 pub mod Lists
 pub mod Chosen
+pub mod Small

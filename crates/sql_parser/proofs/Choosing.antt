@@ -6,8 +6,8 @@ use Rattle.sql_tokens.specs.declared.token.Token.{Token}
 use Rattle.sql_parser.specs.Readers.{Read, Reader, after, begins, either, repeated, many}
 use Rattle.sql_parser.proofs.Exactly.{Fault, At, holds_after, then_ok, then_err, pair_same, if_true, if_false, if_cases, begins_same}
 
-module _ {A B : Type 0} (test : Token → Bool) (P : Reader A) (Q : Reader B) (tokA : A → List Token) (tokB : B → List Token) (EndsA EndsB : List Token → Type 0) (n : ℕ)
-    (p : At P tokA EndsA n) (q : At Q tokB EndsB n) (starts : (a : A) (rest : List Token) → begins test (tokA a ++ rest) ≡ true)
+module _ {A B : Type 0} (test : Token → Bool) (P : Reader A) (Q : Reader B) (tokA : A → List Token) (tokB : B → List Token) (EndsA EndsB : List Token → Type 0) (n l : ℕ)
+    (p : At P tokA EndsA n l) (q : At Q tokB EndsB n l) (starts : (a : A) (rest : List Token) → begins test (tokA a ++ rest) ≡ true)
     (others : (b : B) (rest : List Token) → EndsB rest → begins test (tokB b ++ rest) ≡ false) where
   abbrev pub tok_of : A ⊎ B → List Token
   tok_of (inl a) = tokA a
@@ -22,7 +22,7 @@ module _ {A B : Type 0} (test : Token → Bool) (P : Reader A) (Q : Reader B) (t
   right_ok : (m : ℕ) (ts : List Token) (a : B) (r : List Token) → begins test ts ≡ false → Q m ts ≡ Ok (a, r) → either test P Q m ts ≡ Ok (inr a, r)
   right_ok m ts a r b e = if_false (begins test ts) _ _ b ∙ ap (after (λ b r. Ok (inr b, r))) e
 
-  either_complete : (m : ℕ) → n ≤ m → (d : A ⊎ B) (rest : List Token) → length (tok_of d) ≤ n → Both rest → either test P Q m (tok_of d ++ rest) ≡ Ok (d, rest)
+  either_complete : (m : ℕ) → n ≤ m → (d : A ⊎ B) (rest : List Token) → length (tok_of d) ≤ l → Both rest → either test P Q m (tok_of d ++ rest) ≡ Ok (d, rest)
   either_complete m le (inl a) rest h ends = left_ok m _ a rest (starts a rest) (p.complete m le a rest h ends.0)
   either_complete m le (inr b) rest h ends = right_ok m _ b rest (others b rest ends.1) (q.complete m le b rest h ends.1)
 
@@ -32,7 +32,7 @@ module _ {A B : Type 0} (test : Token → Bool) (P : Reader A) (Q : Reader B) (t
       (λ c f. then_ok (λ a r. Ok (inl a, r)) (P n ts) (d, r) f (λ a s g h. let same = pair_same (inl a) d s r h in k a c (g ∙ ap (λ z. Ok (a, z)) same.1) (sym same.0)))
       (λ c f. then_ok (λ b r. Ok (inr b, r)) (Q n ts) (d, r) f (λ b s g h. let same = pair_same (inr b) d s r h in l b c (g ∙ ap (λ z. Ok (b, z)) same.1) (sym same.0)))
 
-  either_fault : (ts r : List Token) → length ts ≤ n → either test P Q n ts ≡ Err r → Fault (either test P Q) tok_of n ts r
+  either_fault : (ts r : List Token) → length ts ≤ l → either test P Q n ts ≡ Err r → Fault (either test P Q) tok_of n ts r
   either_fault ts r h e = if_cases (begins test ts) _ _ _ e
       (λ c f. then_err (λ a r. Ok (inl a, r)) (P n ts) r f
       (λ g.
@@ -63,7 +63,7 @@ module _ {A B : Type 0} (test : Token → Bool) (P : Reader A) (Q : Reader B) (t
       })
       (λ a s g i. cc))
 
-  pub either_at : At (either test P Q) tok_of Both n
+  pub either_at : At (either test P Q) tok_of Both n l
   either_at = record {
     complete = either_complete;
     sound = λ ts d r e. either_parts ts d r e (λ a c f is. p.sound ts a r f ∙ ap (λ o. tok_of o ++ r) (sym is)) (λ b c f is. q.sound ts b r f ∙ ap (λ o. tok_of o ++ r) (sym is));
@@ -77,7 +77,7 @@ module _ {A B : Type 0} (test : Token → Bool) (P : Reader A) (Q : Reader B) (t
 
 -- ---- parts as long as the first token begins one
 
-module _ {A : Type 0} (test : Token → Bool) (P : Reader A) (tok : A → List Token) (Ends : List Token → Type 0) (n : ℕ) (p : At P tok Ends n)
+module _ {A : Type 0} (test : Token → Bool) (P : Reader A) (tok : A → List Token) (Ends : List Token → Type 0) (n l : ℕ) (p : At P tok Ends n l) (low : l ≤ n)
     (starts : (a : A) (rest : List Token) → begins test (tok a ++ rest) ≡ true) (follows : (a : A) (rest : List Token) → Ends (tok a ++ rest)) where
   abbrev pub toks : List A → List Token
   toks ds = flat_map tok ds
@@ -101,13 +101,13 @@ module _ {A : Type 0} (test : Token → Bool) (P : Reader A) (tok : A → List T
   ends_of [] rest h = h.0
   ends_of (a ∷ ds) rest h = subst Ends (sym (append_assoc (tok a) (toks ds) rest)) (follows a (toks ds ++ rest))
 
-  many_complete : (k m : ℕ) → n ≤ m → (ds : List A) (rest : List Token) → length (toks ds) ≤ k → length (toks ds) ≤ n → EndsMany rest → repeated test P k m (toks ds ++ rest) ≡ Ok (ds, rest)
+  many_complete : (k m : ℕ) → n ≤ m → (ds : List A) (rest : List Token) → length (toks ds) ≤ k → length (toks ds) ≤ l → EndsMany rest → repeated test P k m (toks ds ++ rest) ≡ Ok (ds, rest)
   many_complete k m le [] rest h g ends = none_ok k m rest ends.1
   many_complete zero m le (a ∷ ds) rest h g ends =
-      let s = some_tokens (tok a) (starts a []) in let l = length-append (tok a) (toks ds) in absurd (omega arith)
+      let s = some_tokens (tok a) (starts a []) in let e = length-append (tok a) (toks ds) in absurd (omega arith)
   many_complete (suc k) m le (a ∷ ds) rest h g ends =
       let s = some_tokens (tok a) (starts a []) in
-      let l = length-append (tok a) (toks ds) in
+      let e = length-append (tok a) (toks ds) in
       let text = append_assoc (tok a) (toks ds) rest in
       ap (repeated test P (suc k) m) text
       ∙ more_ok k m (tok a ++ (toks ds ++ rest)) (toks ds ++ rest) rest a ds (starts a (toks ds ++ rest)) (p.complete m le a (toks ds ++ rest) (omega arith) (ends_of ds rest ends))
@@ -195,7 +195,7 @@ module _ {A : Type 0} (test : Token → Bool) (P : Reader A) (tok : A → List T
         done = append_assoc (tok a) F.front F.more ∙ ap (λ (w : List Token). tok a ++ w) F.done;
       }
 
-  many_fault : (k : ℕ) (ts r : List Token) → length ts ≤ k → length ts ≤ n → repeated test P k n ts ≡ Err r → FaultMany k ts r
+  many_fault : (k : ℕ) (ts r : List Token) → length ts ≤ k → length ts ≤ l → repeated test P k n ts ≡ Err r → FaultMany k ts r
   many_fault zero ts r h g e = if_cases (begins test ts) _ _ _ e (λ b f. absurd (no_begin ts h b)) (λ b f. cc)
   many_fault (suc k) ts r h g e = if_cases (begins test ts) _ _ _ e
       (λ b f. then_err (λ a r. after (λ more s. Ok (a ∷ more, s)) (repeated test P k n r)) (P n ts) r f
@@ -203,18 +203,18 @@ module _ {A : Type 0} (test : Token → Bool) (P : Reader A) (tok : A → List T
       (λ a mid i j. then_err (λ more s. Ok (a ∷ more, s)) (repeated test P k n mid) r j
       (λ u.
       let s = ap length (p.sound ts a mid i) in
-      let l = length-append (tok a) mid in
+      let v = length-append (tok a) mid in
       let o = some_tokens (tok a) (starts a []) in
       later_stuck k ts mid r a i (many_fault k mid r (omega arith) (omega arith) u))
       (λ more s u v. cc)))
       (λ b f. cc)
 
-  pub many_at : At (many test P) toks EndsMany n
+  pub many_at : At (many test P) toks EndsMany n l
   many_at = record {
     complete = λ m le ds rest h ends. many_complete m m le ds rest (omega arith) h ends;
     sound = λ ts ds r e. many_sound n ts ds r e;
     holds = λ ts ds r e m le t r' y is. many_holds n m m le le ts ds r e t r' y is;
     fault = λ ts r h e.
-        let F = many_fault n ts r h h e in
+        let F = many_fault n ts r (omega arith) h e in
         record { front = F.front; cut = F.cut; stays = λ m le t r' y is. F.stays m m le le t r' y is; more = F.more; by = F.by; done = F.done };
   }

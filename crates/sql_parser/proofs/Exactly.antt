@@ -28,27 +28,28 @@ pub record Fault {D : Type 0} (P : Reader D) (tok : D → List Token) (n : ℕ) 
   pub by : D
   pub done : front ++ more ≡ tok by
 
-pub record At {D : Type 0} (P : Reader D) (tok : D → List Token) (Ends : List Token → Type 0) (n : ℕ) : Type 0 where
-  pub complete : (m : ℕ) → n ≤ m → (d : D) (rest : List Token) → length (tok d) ≤ n → Ends rest → P m (tok d ++ rest) ≡ Ok (d, rest)
+-- given n to go, and more, up to b tokens are read as they are derived
+pub record At {D : Type 0} (P : Reader D) (tok : D → List Token) (Ends : List Token → Type 0) (n b : ℕ) : Type 0 where
+  pub complete : (m : ℕ) → n ≤ m → (d : D) (rest : List Token) → length (tok d) ≤ b → Ends rest → P m (tok d ++ rest) ≡ Ok (d, rest)
   pub sound : (ts : List Token) (d : D) (r : List Token) → P n ts ≡ Ok (d, r) → ts ≡ tok d ++ r
   pub holds : (ts : List Token) (d : D) (r : List Token) → P n ts ≡ Ok (d, r) → (m : ℕ) → n ≤ m → (t : Token) (r' y : List Token) → r ≡ t ∷ r' → P m (tok d ++ t ∷ y) ≡ Ok (d, t ∷ y)
-  pub fault : (ts r : List Token) → length ts ≤ n → P n ts ≡ Err r → Fault P tok n ts r
+  pub fault : (ts r : List Token) → length ts ≤ b → P n ts ≡ Err r → Fault P tok n ts r
 
 -- what was read stays, with more tokens before the one that follows
-pub holds_after : {D : Type 0} {P : Reader D} {tok : D → List Token} {Ends : List Token → Type 0} {n : ℕ} (p : At P tok Ends n) (ts : List Token) (d : D) (r : List Token) → P n ts ≡ Ok (d, r) → (m : ℕ) → n ≤ m
+pub holds_after : {D : Type 0} {P : Reader D} {tok : D → List Token} {Ends : List Token → Type 0} {n b : ℕ} (p : At P tok Ends n b) (ts : List Token) (d : D) (r : List Token) → P n ts ≡ Ok (d, r) → (m : ℕ) → n ≤ m
     → (xs : List Token) (t : Token) (r' y : List Token) → r ≡ xs ++ t ∷ r' → P m (tok d ++ (xs ++ t ∷ y)) ≡ Ok (d, xs ++ t ∷ y)
 holds_after p ts d r e m le [] t r' y is = p.holds ts d r e m le t r' y is
 holds_after p ts d r e m le (x ∷ xs) t r' y is = p.holds ts d r e m le x (xs ++ t ∷ r') (xs ++ t ∷ y) is
 
 -- ---- one part and then another
 
-module _ {A B : Type 0} (P : Reader A) (Q : Reader B) (tokA : A → List Token) (tokB : B → List Token) (EndsA EndsB : List Token → Type 0) (n : ℕ)
-    (p : At P tokA EndsA n) (q : At Q tokB EndsB n) (b0 : B) (follows : (b : B) (rest : List Token) → EndsB rest → EndsA (tokB b ++ rest)) where
+module _ {A B : Type 0} (P : Reader A) (Q : Reader B) (tokA : A → List Token) (tokB : B → List Token) (EndsA EndsB : List Token → Type 0) (n l c : ℕ)
+    (p : At P tokA EndsA n l) (q : At Q tokB EndsB n c) (covers : (a : A) → l ≤ length (tokA a) + c) (b0 : B) (follows : (b : B) (rest : List Token) → EndsB rest → EndsA (tokB b ++ rest)) where
   abbrev pub tok2 : A × B → List Token
   tok2 x = tokA x.0 ++ tokB x.1
 
-  shorter : (xs ys : List Token) → length (xs ++ ys) ≤ n → (length xs ≤ n) × (length ys ≤ n)
-  shorter xs ys h = let l = length-append xs ys in (omega arith, omega arith)
+  shorter : (a : A) (ys : List Token) → length (tokA a ++ ys) ≤ l → (length (tokA a) ≤ l) × (length ys ≤ c)
+  shorter a ys h = let e = length-append (tokA a) ys in let k = covers a in (omega arith, omega arith)
 
   both_ok : (m : ℕ) (ts r s : List Token) (a : A) (b : B) → P m ts ≡ Ok (a, r) → Q m r ≡ Ok (b, s) → both P Q m ts ≡ Ok ((a, b), s)
   both_ok m ts r s a b e f = ap (after (λ a r. after (λ b s. Ok ((a, b), s)) (Q m r))) e ∙ ap (after (λ b s. Ok ((a, b), s))) f
@@ -65,12 +66,10 @@ module _ {A B : Type 0} (P : Reader A) (Q : Reader B) (tokA : A → List Token) 
       let same = pair_same (a, b) d s r i in
       k mid (f ∙ ap (λ z. Ok (z, mid)) (ap (λ z. z.0) same.0)) (h ∙ (λ j. Ok ((same.0 j).1, same.1 j)))))
 
-  second_fault : (ts mid r : List Token) (a : A) → length ts ≤ n → P n ts ≡ Ok (a, mid) → Q n mid ≡ Err r → Fault (both P Q) tok2 n ts r
+  second_fault : (ts mid r : List Token) (a : A) → length ts ≤ l → P n ts ≡ Ok (a, mid) → Q n mid ≡ Err r → Fault (both P Q) tok2 n ts r
   second_fault ts mid r a h e f =
       let s = p.sound ts a mid e in
-      let l = length-append (tokA a) mid in
-      let k = ap length s in
-      let F = q.fault mid r (omega arith) f in
+      let F = q.fault mid r (shorter a mid (subst (λ w. length w ≤ l) s h)).1 f in
       record {
         front = tokA a ++ F.front;
         cut = s ∙ ap (λ (w : List Token). tokA a ++ w) F.cut ∙ sym (append_assoc (tokA a) F.front r);
@@ -83,7 +82,7 @@ module _ {A B : Type 0} (P : Reader A) (Q : Reader B) (tokA : A → List Token) 
         done = append_assoc (tokA a) F.front F.more ∙ ap (λ (w : List Token). tokA a ++ w) F.done;
       }
 
-  first_fault : (ts r : List Token) → length ts ≤ n → P n ts ≡ Err r → Fault (both P Q) tok2 n ts r
+  first_fault : (ts r : List Token) → length ts ≤ l → P n ts ≡ Err r → Fault (both P Q) tok2 n ts r
   first_fault ts r h e =
       let F = p.fault ts r h e in
       record {
@@ -95,10 +94,10 @@ module _ {A B : Type 0} (P : Reader A) (Q : Reader B) (tokA : A → List Token) 
         done = sym (append_assoc F.front F.more (tokB b0)) ∙ ap (λ (w : List Token). w ++ tokB b0) F.done;
       }
 
-  pub both_at : At (both P Q) tok2 EndsB n
+  pub both_at : At (both P Q) tok2 EndsB n l
   both_at = record {
     complete = λ m le d rest h ends.
-        let s = shorter (tokA d.0) (tokB d.1) h in
+        let s = shorter d.0 (tokB d.1) h in
         ap (both P Q m) (append_assoc (tokA d.0) (tokB d.1) rest)
         ∙ both_ok m _ (tokB d.1 ++ rest) rest d.0 d.1 (p.complete m le d.0 (tokB d.1 ++ rest) s.0 (follows d.1 rest ends)) (q.complete m le d.1 rest s.1 ends);
     sound = λ ts d r e. parts ts d r e (λ mid f g. p.sound ts d.0 mid f ∙ ap (λ (w : List Token). tokA d.0 ++ w) (q.sound mid d.1 r g) ∙ sym (append_assoc (tokA d.0) (tokB d.1) r));
@@ -129,7 +128,7 @@ begins_same test b ts (x ∷ xs) t r y e is = sym (ap (begins test) is) ∙ e
 
 -- ---- one token
 
-module _ {A : Type 0} (look : Token → Option A) (mk : A → Token) (finds : (a : A) → look (mk a) ≡ Some a) (only : (t : Token) (a : A) → look t ≡ Some a → t ≡ mk a) (a0 : A) (n : ℕ) where
+module _ {A : Type 0} (look : Token → Option A) (mk : A → Token) (finds : (a : A) → look (mk a) ≡ Some a) (only : (t : Token) (a : A) → look t ≡ Some a → t ≡ mk a) (a0 : A) (n l : ℕ) where
   abbrev pub tok1 : A → List Token
   tok1 a = mk a ∷ []
 
@@ -167,7 +166,7 @@ module _ {A : Type 0} (look : Token → Option A) (mk : A → Token) (finds : (a
         done = refl;
       }
 
-  pub one_at : At (one look) tok1 Always n
+  pub one_at : At (one look) tok1 Always n l
   one_at = record {
     complete = λ m le d rest h ends. one_ok m d rest;
     sound = one_sound;
@@ -177,7 +176,7 @@ module _ {A : Type 0} (look : Token → Option A) (mk : A → Token) (finds : (a
 
 -- ---- a part that may be left out
 
-module _ {A : Type 0} (test : Token → Bool) (P : Reader A) (tok : A → List Token) (Ends : List Token → Type 0) (n : ℕ) (p : At P tok Ends n)
+module _ {A : Type 0} (test : Token → Bool) (P : Reader A) (tok : A → List Token) (Ends : List Token → Type 0) (n l : ℕ) (p : At P tok Ends n l)
     (starts : (a : A) (rest : List Token) → begins test (tok a ++ rest) ≡ true) where
   abbrev pub tok0 : Option A → List Token
   tok0 None = []
@@ -189,7 +188,7 @@ module _ {A : Type 0} (test : Token → Bool) (P : Reader A) (tok : A → List T
   some_ok : (m : ℕ) (ts : List Token) (a : A) (r : List Token) → begins test ts ≡ true → P m ts ≡ Ok (a, r) → optionally test P m ts ≡ Ok (Some a, r)
   some_ok m ts a r b e = if_true (begins test ts) _ _ b ∙ ap (after (λ a r. Ok (Some a, r))) e
 
-  optionally_complete : (m : ℕ) → n ≤ m → (d : Option A) (rest : List Token) → length (tok0 d) ≤ n → Ends0 rest → optionally test P m (tok0 d ++ rest) ≡ Ok (d, rest)
+  optionally_complete : (m : ℕ) → n ≤ m → (d : Option A) (rest : List Token) → length (tok0 d) ≤ l → Ends0 rest → optionally test P m (tok0 d ++ rest) ≡ Ok (d, rest)
   optionally_complete m le None rest h ends = if_false (begins test rest) _ _ ends.1
   optionally_complete m le (Some a) rest h ends = some_ok m (tok a ++ rest) a rest (starts a rest) (p.complete m le a rest h ends.0)
 
@@ -199,7 +198,7 @@ module _ {A : Type 0} (test : Token → Bool) (P : Reader A) (tok : A → List T
       (λ b f. then_ok (λ a r. Ok (Some a, r)) (P n ts) (d, r) f (λ a s g h. let same = pair_same (Some a) d s r h in k a b (g ∙ ap (λ z. Ok (a, z)) same.1) (sym same.0)))
       (λ b f. let same = pair_same None d ts r f in l b (sym same.0) same.1)
 
-  optionally_fault : (ts r : List Token) → length ts ≤ n → optionally test P n ts ≡ Err r → Fault (optionally test P) tok0 n ts r
+  optionally_fault : (ts r : List Token) → length ts ≤ l → optionally test P n ts ≡ Err r → Fault (optionally test P) tok0 n ts r
   optionally_fault ts r h e = if_cases (begins test ts) _ _ _ e
       (λ b f. then_err (λ a r. Ok (Some a, r)) (P n ts) r f
       (λ g.
@@ -217,7 +216,7 @@ module _ {A : Type 0} (test : Token → Bool) (P : Reader A) (tok : A → List T
       (λ a s g i. cc))
       (λ b f. cc)
 
-  pub optionally_at : At (optionally test P) tok0 Ends0 n
+  pub optionally_at : At (optionally test P) tok0 Ends0 n l
   optionally_at = record {
     complete = optionally_complete;
     sound = λ ts d r e. option_parts ts d r e (λ a b f is. p.sound ts a r f ∙ ap (λ o. tok0 o ++ r) (sym is)) (λ b is same. same ∙ ap (λ o. tok0 o ++ r) (sym is));
@@ -229,7 +228,7 @@ module _ {A : Type 0} (test : Token → Bool) (P : Reader A) (tok : A → List T
 
 -- ---- what is read, seen as something else
 
-module _ {A B : Type 0} (f : A → B) (g : B → A) (P : Reader A) (tokA : A → List Token) (tokB : B → List Token) (Ends : List Token → Type 0) (n : ℕ) (p : At P tokA Ends n)
+module _ {A B : Type 0} (f : A → B) (g : B → A) (P : Reader A) (tokA : A → List Token) (tokB : B → List Token) (Ends : List Token → Type 0) (n l : ℕ) (p : At P tokA Ends n l)
     (back : (b : B) → f (g b) ≡ b) (same_tokens : (a : A) → tokB (f a) ≡ tokA a) where
   tokens_back : (b : B) → tokB b ≡ tokA (g b)
   tokens_back b = ap tokB (sym (back b)) ∙ same_tokens (g b)
@@ -240,7 +239,7 @@ module _ {A B : Type 0} (f : A → B) (g : B → A) (P : Reader A) (tokA : A →
   seen_parts : {Q : Type 0} (ts : List Token) (d : B) (r : List Token) → seen_as f P n ts ≡ Ok (d, r) → ((a : A) → P n ts ≡ Ok (a, r) → f a ≡ d → Q) → Q
   seen_parts ts d r e k = then_ok (λ a r. Ok (f a, r)) (P n ts) (d, r) e (λ a s h i. let same = pair_same (f a) d s r i in k a (h ∙ ap (λ z. Ok (a, z)) same.1) same.0)
 
-  seen_fault : (ts r : List Token) → length ts ≤ n → seen_as f P n ts ≡ Err r → Fault (seen_as f P) tokB n ts r
+  seen_fault : (ts r : List Token) → length ts ≤ l → seen_as f P n ts ≡ Err r → Fault (seen_as f P) tokB n ts r
   seen_fault ts r h e = then_err (λ a r. Ok (f a, r)) (P n ts) r e
       (λ k.
       let F = p.fault ts r h k in
@@ -254,11 +253,11 @@ module _ {A B : Type 0} (f : A → B) (g : B → A) (P : Reader A) (tokA : A →
       })
       (λ a s k l. cc)
 
-  pub seen_at : At (seen_as f P) tokB Ends n
+  pub seen_at : At (seen_as f P) tokB Ends n l
   seen_at = record {
     complete = λ m le d rest h ends.
         let back_tokens = tokens_back d in
-        let l = ap length back_tokens in
+        let same = ap length back_tokens in
         ap (λ (xs : List Token). seen_as f P m (xs ++ rest)) back_tokens ∙ seen_ok m (tokA (g d) ++ rest) rest (g d) (p.complete m le (g d) rest (omega arith) ends)
         ∙ ap (λ b. Ok (b, rest)) (back d);
     sound = λ ts d r e. seen_parts ts d r e (λ a k is. p.sound ts a r k ∙ ap (λ (xs : List Token). xs ++ r) (sym (same_tokens a) ∙ ap tokB is));

@@ -4,5 +4,6 @@ pub mod Productions
 pub mod Reads
 pub mod Made
 pub mod Cursor
+pub mod Levels
 pub mod Tests
 pub mod Clauses

@@ -5,6 +5,7 @@ mod comparison;
 mod conditions;
 mod cursor;
 mod items;
+mod levels;
 mod made;
 mod parts;
 mod statements;

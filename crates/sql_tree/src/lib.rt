@@ -11,6 +11,3 @@ pub use condition::{Cond, Op, Operand};
 pub use laws::{canonical_text_spells, canonical_tokens_spell};
 pub use printer::print;
 pub use statement::{Item, Items, OrderKey, SetPair, Statement};
-
-#[cfg(test)]
-mod tests;

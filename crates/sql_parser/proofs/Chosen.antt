@@ -1,6 +1,6 @@
 -- Directions and labels, by the words that come.
-use Rattle.std.proofs.Common.{◌≡◌, ℕ, Bool, true, false, List, [], ◌∷◌, ◌++◌, refl, sym, ap, ◌∙◌, subst, inl, inr, map}
-use Rattle.std.specs.Prelude.{Option, Some, None, Ok, if◌then◌else◌}
+use Rattle.std.proofs.Common.{◌≡◌, ℕ, Bool, true, false, List, [], ◌∷◌, ◌++◌, refl, sym, ap, ◌∙◌, subst, inr, map}
+use Rattle.std.specs.Prelude.{Option, Some, None, Ok}
 use Rattle.sql_tokens.specs.declared.token.Token.{Token}
 use Rattle.sql_tokens.specs.declared.keyword.Keyword.TheVariants as word
 use Rattle.sql_tree.specs.declared.statement.Items.TheVariants as items

@@ -24,3 +24,4 @@ pub mod Wellformed
 pub mod Shrinking
 pub mod Lists
 pub mod Chosen
+pub mod Small

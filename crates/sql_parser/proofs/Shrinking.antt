@@ -1,13 +1,13 @@
 -- What is left is no longer than what there was.
-use Rattle.std.proofs.Common.{◌≡◌, ℕ, zero, suc, ◌≤◌, ◌<◌, Bool, true, false, List, [], ◌∷◌, length, refl, sym, subst, arith, ◌⊎◌, inl, inr}
-use Rattle.std.specs.Prelude.{Option, Some, None, Result, Ok, Err, if◌then◌else◌, ◌&&◌, codes}
+use Rattle.std.proofs.Common.{◌≡◌, ℕ, zero, suc, ◌≤◌, ◌<◌, Bool, true, false, List, [], ◌∷◌, length, subst, arith}
+use Rattle.std.specs.Prelude.{Option, Some, None, Ok, Err, if◌then◌else◌}
 use Rattle.sql_tokens.specs.declared.token.Token.{Token}
 use Rattle.sql_tokens.specs.declared.sign.Sign.TheVariants as sign
 use Rattle.sql_tree.specs.Parts.{Spelled, Value}
 use Rattle.sql_tree.specs.Grammar.{Some1, Item, Key, Pair}
-use Rattle.sql_parser.specs.Readers.{Read, Reader, after, begins, found, one, both, either, optionally, repeated, many, seen_as, parted}
-use Rattle.sql_parser.specs.Looks.{look_sign, look_name, is_sign, is_call}
-use Rattle.sql_parser.specs.Productions.{name, column_rest, column, value, values, led, listed, in_parens, clause, behind, item, label, key, direction, pair}
+use Rattle.sql_parser.specs.Readers.{Read, Reader, after, begins, found, one, both, either, optionally, repeated, seen_as}
+use Rattle.sql_parser.specs.Looks.{look_sign, look_name}
+use Rattle.sql_parser.specs.Productions.{name, column_rest, column, value, values, listed, in_parens, item, label, key, direction, pair}
 use Rattle.sql_parser.specs.Reads.{Reads}
 
 abbrev Within : {A : Type 0} → List Token → Read A → Type 0

@@ -1,15 +1,14 @@
 -- Reading a production, by what reading its parts gives.
-use Rattle.std.proofs.Common.{◌≡◌, ℕ, zero, suc, ◌+◌, ◌≤◌, ◌<◌, Bool, true, false, List, [], ◌∷◌, refl, sym, ap, ◌∙◌, subst, arith, ◌⊎◌, inl, inr}
-use Rattle.std.specs.Prelude.{Option, Some, None, is_some, Result, Ok, Err, if◌then◌else◌, ◌&&◌}
+use Rattle.std.proofs.Common.{◌≡◌, ℕ, ◌+◌, Bool, true, false, List, ◌∷◌, refl, sym, ap, ◌∙◌, subst, arith, ◌⊎◌, inl, inr}
+use Rattle.std.specs.Prelude.{Option, Some, None, Result, Ok, Err, if◌then◌else◌, ◌&&◌}
 use Rattle.std.specs.Result.{IsErrAnd}
 use Rattle.std.proofs.lemmas.Result.{err_from_is_err_and}
 use Rattle.sql_tokens.specs.declared.token.Token.{Token}
-use Rattle.sql_tokens.specs.declared.token.Token.TheVariants as t
-use Rattle.sql_parser.specs.Readers.{Read, Reader, after, begins, found, one, both, either, optionally, repeated, many, seen_as, parted}
+use Rattle.sql_parser.specs.Readers.{Read, Reader, after, begins, found, one, both, either, optionally, seen_as}
 use Rattle.sql_parser.specs.Reads.{Reads, Gives}
 use Rattle.sql_parser.specs.declared.stop.Stop.{Stop}
 use Rattle.sql_parser.specs.declared.stop.Stop.TheVariants as stop
-use Rattle.sql_parser.specs.Cursor.{is_one, EatsCall}
+use Rattle.sql_parser.specs.Cursor.{EatsCall}
 use Rattle.sql_parser.specs.Looks.{is_call, is_sign}
 use Rattle.sql_parser.specs.Productions.{name, led}
 use Rattle.sql_tree.specs.Parts.{Spelled}
@@ -20,14 +19,6 @@ use Rattle.sql_parser.proofs.Exactly.{if_true, if_false}
 
 pub took : {A : Type 0} (look : Token → Option A) (a : A) (x : Token) (rest : List Token) → look x ≡ Some a → Reads (one look) (x ∷ rest) (Ok (a, rest))
 took look a x rest e = record { enough = 0; gives = λ n le. ap (found (x ∷ rest) rest) e }
-
-none_found : {A : Type 0} (look : Token → Option A) (whole rest : List Token) (o : Option A) → is_some o ≡ false → found whole rest o ≡ Err whole
-none_found look whole rest None e = refl
-none_found look whole rest (Some a) e = cc
-
-pub refused : {A : Type 0} (look : Token → Option A) (ts : List Token) → false ≡ begins (is_one look) ts → Reads (one look) ts (Err ts)
-refused look [] e = record { enough = 0; gives = λ n le. refl }
-refused look (x ∷ ts) e = record { enough = 0; gives = λ n le. none_found look (x ∷ ts) ts (look x) (sym e) }
 
 -- ---- one part and then another
 
@@ -140,9 +131,6 @@ ended_first {p = p} q {old} {new} {given} = ended_by p (both p q) old old new gi
 pub ended_second : {A B W : Type 0} {p : Reader A} {q : Reader B} {a : A} {old mid new : List Token} {given : Result W Stop} → Reads p old (Ok (a, mid)) → Ended q mid given new → Ended (both p q) old given new
 ended_second {p = p} {q} {old = old} {mid} {new} {given} h = ended_by q (both p q) mid old new given (λ k. both_second h k)
 
-pub ended_left : {A B W : Type 0} (test : Token → Bool) {p : Reader A} (q : Reader B) {old new : List Token} {given : Result W Stop} → true ≡ begins test old → Ended p old given new → Ended (either test p q) old given new
-ended_left test {p} q {old} {new} {given} e = ended_by p (either test p q) old old new given (λ k. left_err test q e k)
-
 pub ended_right : {A B W : Type 0} (test : Token → Bool) (p : Reader A) {q : Reader B} {old new : List Token} {given : Result W Stop} → false ≡ begins test old → Ended q old given new → Ended (either test p q) old given new
 ended_right test p {q} {old} {new} {given} e = ended_by q (either test p q) old old new given (λ k. right_err test p e k)
 
@@ -159,10 +147,6 @@ gives_err made p old new stop.NoMemory h = tt
 
 pub gives_ended : {D W : Type 0} (made : D → W) (p : Reader D) (old new : List Token) (given : Result W Stop) → Ended p old given new → Gives made p old given new
 gives_ended {W = W} made p old new given h = subst (λ (r : Result W Stop). Gives made p old r new) (sym h.is) (gives_err made p old new h.stop h.by)
-
--- it found what its last part found
-pub gives_done : {D V : Type 0} (made : D → V) (p : Reader D) (old new : List Token) (d : D) (v : V) → Reads p old (Ok (d, new)) → v ≡ made d → Gives made p old (Ok v) new
-gives_done made p old new d v h e = (d, e, h)
 
 -- a call's last part gives what the call gives
 pub gives_by : {D E V : Type 0} (made : D → V) (made' : E → V) (p : Reader D) (q : Reader E) (mid old new : List Token) (given : Result V Stop) (f : D → E)
@@ -197,14 +181,6 @@ module _ {A B V : Type 0} (made : A × B → V) (p : Reader A) (q : Reader B) {o
 module _ {A V : Type 0} (made : Option A → V) (test : Token → Bool) (p : Reader A) (old new : List Token) (given : Result V Stop) where
   pub gives_some : true ≡ begins test old → Gives (λ a. made (Some a)) p old given new → Gives made (optionally test p) old given new
   gives_some e h = gives_by (λ a. made (Some a)) made p (optionally test p) old old new given Some (λ d. refl) (λ d k. some_ok test e k) (λ k. some_err test e k) h
-
--- ---- a part behind a token
-
-pub behind_ok : {A B : Type 0} {s : Reader A} {q : Reader B} {ts r u : List Token} {a : A} {b : B} → Reads s ts (Ok (a, r)) → Reads q r (Ok (b, u)) → Reads (seen_as (λ x. x.1) (both s q)) ts (Ok (b, u))
-behind_ok h k = seen_ok (λ x. x.1) (both_ok h k)
-
-pub behind_err : {A B : Type 0} {s : Reader A} {q : Reader B} {ts r u : List Token} {a : A} → Reads s ts (Ok (a, r)) → Reads q r (Err u) → Reads (seen_as (λ x. x.1) (both s q)) ts (Err u)
-behind_err h k = seen_err (λ x. x.1) (both_second h k)
 
 -- for a last call whose result is returned
 pub ruleset gives = (gives_seen, gives_left, gives_right, gives_right_at, gives_then, gives_some)
@@ -259,12 +235,5 @@ module _ {A B V : Type 0} (made : A ⊎ (Spelled × B) → V) (call : List ℕ) 
   pub gives_name : (s : Spelled) (r : List Token) → EatsCall call old false mid → Reads name mid (Ok (s, r)) → Gives (λ b. made (inr (s, b))) q r given new → Gives made (led call p q) old given new
   gives_name s r w h = gives_by (λ b. made (inr (s, b))) made q (led call p q) r old new given (λ b. inr (s, b)) (λ d. refl) (λ d k. led_name_ok p w h k) (λ k. led_name_err p w h k)
 
-pub ended_call : {A B W : Type 0} {call : List ℕ} {p : Reader A} (q : Reader B) {old mid new : List Token} {given : Result W Stop} → EatsCall call old true mid → Ended p mid given new → Ended (led call p q) old given new
-ended_call {call = call} {p} q {old} {mid} {new} {given} w = ended_by p (led call p q) mid old new given (λ k. led_call_err q w k)
-
 pub ended_name : {A B W : Type 0} {call : List ℕ} (p : Reader A) (q : Reader B) {old mid new : List Token} {given : Result W Stop} → EatsCall call old false mid → Ended name mid given new → Ended (led call p q) old given new
 ended_name {call = call} p q {old} {mid} {new} {given} w = ended_by name (led call p q) mid old new given (λ k. led_err p q w k)
-
-pub ended_behind : {A B W : Type 0} {call : List ℕ} (p : Reader A) {q : Reader B} {s : Spelled} {old mid r new : List Token} {given : Result W Stop}
-    → EatsCall call old false mid → Reads name mid (Ok (s, r)) → Ended q r given new → Ended (led call p q) old given new
-ended_behind {call = call} p {q} {old = old} {mid} {r} {new} {given} w h = ended_by q (led call p q) r old new given (λ k. led_name_err p w h k)

@@ -1,7 +1,7 @@
 -- The token that a cursor takes.
 use Rattle.std.proofs.Common.{◌≡◌, ℕ, ◌<◌, ◌^◌, Bool, true, false, List, ◌∷◌, refl, sym, ap, ◌∙◌, subst}
 use Rattle.std.proofs.lemmas.Bool.{ltb-true, lt-ltb}
-use Rattle.std.specs.Prelude.{Option, Some, None, Ok, nat_lt, ◌&&◌}
+use Rattle.std.specs.Prelude.{Option, Some, Ok, nat_lt, ◌&&◌}
 use Rattle.sql_tokens.specs.declared.sign.Sign.TheVariants as sign
 use Rattle.sql_tokens.specs.declared.token.Token.{Token}
 use Rattle.sql_tokens.specs.declared.token.Token.TheVariants as t

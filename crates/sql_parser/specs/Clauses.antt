@@ -1,6 +1,5 @@
 -- Parts of statements, and what they are made into.
 use Rattle.std.specs.Prelude.{ℕ, List, [], ◌∷◌, map, Option, Some, None, option_map}
-use Rattle.sql_tokens.specs.declared.keyword.Keyword.{Keyword}
 use Rattle.sql_tokens.specs.declared.sign.Sign.TheVariants as sign
 use Rattle.sql_tree.specs.declared.condition.Operand.{Operand}
 use Rattle.sql_tree.specs.declared.statement.Items as trees_items

@@ -10,4 +10,4 @@ returns-in_err-right c = gives_ended _ _ _ _ _ (ended_second c.in_ok-op.ensures.
 
 pub returns : goal.returns
 returns c =
-    ((c.in_ok-op.ensures.0, c.in_ok-right.ensures.0), (λ i. tree.Compare c.args.left (c.in_ok-op.ensures.1 i) (c.in_ok-right.ensures.1 i)), (both_ok c.in_ok-op.ensures.2 c.in_ok-right.ensures.2))
+    ((c.in_ok-op.ensures.0, c.in_ok-right.ensures.0), (λ i. tree.Compare c.args.left (c.in_ok-op.ensures.1 i) (c.in_ok-right.ensures.1 i)), both_ok c.in_ok-op.ensures.2 c.in_ok-right.ensures.2)

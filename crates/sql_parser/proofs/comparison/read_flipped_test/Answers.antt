@@ -11,12 +11,16 @@ returns-in_err-left c = gives_ended _ _ _ _ _ (ended_seen _ (ended_first _ (ende
 pub returns-in_err-op : goal.returns-in_err-op
 unfolding flipped_test
 returns-in_err-op c =
-    gives_ended _ _ _ _ _ (ended_seen _ (ended_second c.in_ok-left.ensures.2 (ended_first _ (ended _ _ _ _ _ c.from_residual-in_err-op.ensures.1 c.in_err-op.ensures))))
+    gives_ended _ _ _ _ _
+    (ended_seen _ (ended_second c.in_ok-left.ensures.2 (ended_first _ (ended _ _ _ _ _ c.from_residual-in_err-op.ensures.1 c.in_err-op.ensures))))
 
 pub returns-in_err-right : goal.returns-in_err-right
 unfolding flipped_test
 returns-in_err-right c =
-    gives_ended _ _ _ _ _ (ended_seen _ (ended_second c.in_ok-left.ensures.2 (ended_second c.in_ok-op.ensures.2 (ended _ _ _ _ _ c.from_residual-in_err-right.ensures.1 c.in_err-right.ensures))))
+    gives_ended _ _ _ _ _
+    (ended_seen _
+    (ended_second c.in_ok-left.ensures.2
+    (ended_second c.in_ok-op.ensures.2 (ended _ _ _ _ _ c.from_residual-in_err-right.ensures.1 c.in_err-right.ensures))))
 
 pub returns : goal.returns
 unfolding flipped_test
@@ -24,4 +28,4 @@ returns c =
     let left = c.in_ok-left.ensures in
     let op = c.in_ok-op.ensures in
     let right = c.in_ok-right.ensures in
-    (flipped left.0 op.0 right.0, (λ i. tree.Compare (left.1 i) (op.1 i) (right.1 i)), (seen_ok _ (both_ok c.in_ok-left.ensures.2 (both_ok c.in_ok-op.ensures.2 c.in_ok-right.ensures.2))))
+    (flipped left.0 op.0 right.0, (λ i. tree.Compare (left.1 i) (op.1 i) (right.1 i)), seen_ok _ (both_ok c.in_ok-left.ensures.2 (both_ok c.in_ok-op.ensures.2 c.in_ok-right.ensures.2)))

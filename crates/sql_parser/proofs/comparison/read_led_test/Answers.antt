@@ -15,4 +15,6 @@ pub returns : goal.returns
 unfolding led_test
 returns c =
     let first = c.in_ok-first.ensures in
-    gives_seen _ _ _ _ _ _ (gives_name _ _ _ _ _ _ _ _ _ _ c.if-eat_call.ensures first.2 (gives_same _ _ _ _ _ _ (column_test_is first.0 c.in_ok-first.first first.1) c.read_column_test.ensures))
+    gives_seen _ _ _ _ _ _
+    (gives_name _ _ _ _ _ _ _ _ _ _ c.if-eat_call.ensures first.2
+    (gives_same _ _ _ _ _ _ (column_test_is first.0 c.in_ok-first.first first.1) c.read_column_test.ensures))

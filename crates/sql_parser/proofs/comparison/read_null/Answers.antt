@@ -6,8 +6,14 @@ returns-in_err-word c = gives_ended _ _ _ _ _ (ended_seen _ (ended_first _ (ende
 
 pub returns-in_err-word-2 : goal.returns-in_err-word-2
 returns-in_err-word-2 c =
-    gives_ended _ _ _ _ _ (ended_seen _ (ended_second c.in_ok-word.ensures.2 (ended_seen _ (ended_second c.read_not-negated.ensures (ended _ _ _ _ _ c.from_residual-in_err-word-2.ensures.1 c.in_err-word-2.ensures)))))
+    gives_ended _ _ _ _ _
+    (ended_seen _
+    (ended_second c.in_ok-word.ensures.2
+    (ended_seen _ (ended_second c.read_not-negated.ensures (ended _ _ _ _ _ c.from_residual-in_err-word-2.ensures.1 c.in_err-word-2.ensures)))))
 
 pub returns : goal.returns
-returns c =
-    (c.read_not-negated.result, c.in_ok-test.ensures, (seen_ok _ (both_ok c.in_ok-word.ensures.2 (seen_ok _ (both_ok c.read_not-negated.ensures c.in_ok-word-2.ensures.2)))))
+returns c = (
+  c.read_not-negated.result,
+  c.in_ok-test.ensures,
+  seen_ok _ (both_ok c.in_ok-word.ensures.2 (seen_ok _ (both_ok c.read_not-negated.ensures c.in_ok-word-2.ensures.2))),
+)

@@ -11,9 +11,11 @@ returns-in_err-word c =
 
 pub returns-in_err-list : goal.returns-in_err-list
 returns-in_err-list c =
-    gives_ended _ _ _ _ _ (ended_second c.read_not-negated.ensures (ended_seen _ (ended_second c.in_ok-word.ensures.2 (ended _ _ _ _ _ c.from_residual-in_err-list.ensures.1 c.in_err-list.ensures))))
+    gives_ended _ _ _ _ _
+    (ended_second c.read_not-negated.ensures
+    (ended_seen _ (ended_second c.in_ok-word.ensures.2 (ended _ _ _ _ _ c.from_residual-in_err-list.ensures.1 c.in_err-list.ensures))))
 
 pub returns : goal.returns
 returns c =
     let list = c.in_ok-list.ensures in
-    ((c.read_not-negated.result, list.0), c.in_ok-test.ensures ∙ ap (λ (l : List Operand). not_tree c.read_not-negated.result (tree.Within c.args.left l)) list.1, (both_ok c.read_not-negated.ensures (seen_ok _ (both_ok c.in_ok-word.ensures.2 c.in_ok-list.ensures.2))))
+    ((c.read_not-negated.result, list.0), c.in_ok-test.ensures ∙ ap (λ (l : List Operand). not_tree c.read_not-negated.result (tree.Within c.args.left l)) list.1, both_ok c.read_not-negated.ensures (seen_ok _ (both_ok c.in_ok-word.ensures.2 c.in_ok-list.ensures.2)))

@@ -9,16 +9,30 @@ returns-in_err-sign c =
 
 pub returns-in_err-sign-2 : goal.returns-in_err-sign-2
 returns-in_err-sign-2 c =
-    gives_ended _ _ _ _ _ (ended_seen _ (ended_first _ (ended_seen _ (ended_second c.in_ok-sign.ensures.2 (ended_first _ (ended _ _ _ _ _ c.from_residual-in_err-sign-2.ensures.1 c.in_err-sign-2.ensures))))))
+    gives_ended _ _ _ _ _
+    (ended_seen _
+    (ended_first _
+    (ended_seen _ (ended_second c.in_ok-sign.ensures.2 (ended_first _ (ended _ _ _ _ _ c.from_residual-in_err-sign-2.ensures.1 c.in_err-sign-2.ensures))))))
 
 pub returns-in_err-sign-3 : goal.returns-in_err-sign-3
 returns-in_err-sign-3 c =
-    gives_ended _ _ _ _ _ (ended_seen _ (ended_first _ (ended_seen _ (ended_second c.in_ok-sign.ensures.2 (ended_second c.in_ok-sign-2.ensures.2 (ended _ _ _ _ _ c.from_residual-in_err-sign-3.ensures.1 c.in_err-sign-3.ensures))))))
+    gives_ended _ _ _ _ _
+    (ended_seen _
+    (ended_first _
+    (ended_seen _
+    (ended_second c.in_ok-sign.ensures.2
+    (ended_second c.in_ok-sign-2.ensures.2 (ended _ _ _ _ _ c.from_residual-in_err-sign-3.ensures.1 c.in_err-sign-3.ensures))))))
 
 pub returns-in_err-label : goal.returns-in_err-label
 returns-in_err-label c =
-    gives_ended _ _ _ _ _ (ended_seen _ (ended_second (seen_ok _ (both_ok c.in_ok-sign.ensures.2 (both_ok c.in_ok-sign-2.ensures.2 c.in_ok-sign-3.ensures.2))) (ended _ _ _ _ _ c.from_residual-in_err-label.ensures.1 c.in_err-label.ensures)))
+    gives_ended _ _ _ _ _
+    (ended_seen _
+    (ended_second (seen_ok _ (both_ok c.in_ok-sign.ensures.2 (both_ok c.in_ok-sign-2.ensures.2 c.in_ok-sign-3.ensures.2)))
+    (ended _ _ _ _ _ c.from_residual-in_err-label.ensures.1 c.in_err-label.ensures)))
 
 pub returns : goal.returns
-returns c =
-    (c.in_ok-label.ensures.0, ap items.Count c.in_ok-label.ensures.1, (seen_ok _ (both_ok (seen_ok _ (both_ok c.in_ok-sign.ensures.2 (both_ok c.in_ok-sign-2.ensures.2 c.in_ok-sign-3.ensures.2))) c.in_ok-label.ensures.2)))
+returns c = (
+  c.in_ok-label.ensures.0,
+  ap items.Count c.in_ok-label.ensures.1,
+  seen_ok _ (both_ok (seen_ok _ (both_ok c.in_ok-sign.ensures.2 (both_ok c.in_ok-sign-2.ensures.2 c.in_ok-sign-3.ensures.2))) c.in_ok-label.ensures.2),
+)

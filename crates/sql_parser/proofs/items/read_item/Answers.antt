@@ -16,4 +16,4 @@ unfolding item
 returns c =
     let column = c.in_ok-column.ensures in
     let label = c.in_ok-label.ensures in
-    (record { column = column.0; label = label.0 }, (λ i. record { column = column.1 i; label = label.1 i }), (seen_ok _ (both_ok c.in_ok-column.ensures.2 c.in_ok-label.ensures.2)))
+    (record { column = column.0; label = label.0 }, (λ i. record { column = column.1 i; label = label.1 i }), seen_ok _ (both_ok c.in_ok-column.ensures.2 c.in_ok-label.ensures.2))

@@ -11,4 +11,4 @@ unfolding key
 returns c =
     let column = c.in_ok-column.ensures in
     let direction = c.read_direction-descending.ensures in
-    (record { column = column.0; direction = direction.0 }, (λ i. record { column = column.1 i; descending = direction.1 i }), (seen_ok _ (both_ok c.in_ok-column.ensures.2 c.read_direction-descending.ensures.2)))
+    (record { column = column.0; direction = direction.0 }, (λ i. record { column = column.1 i; descending = direction.1 i }), seen_ok _ (both_ok c.in_ok-column.ensures.2 c.read_direction-descending.ensures.2))

@@ -13,4 +13,4 @@ returns-in_err-keys c =
 
 pub returns : goal.returns
 unfolding keys
-returns c = (c.in_ok-keys.ensures.0, c.in_ok-keys.ensures.1, (seen_ok _ (both_ok c.in_ok-word.ensures.2 c.in_ok-keys.ensures.2)))
+returns c = (c.in_ok-keys.ensures.0, c.in_ok-keys.ensures.1, seen_ok _ (both_ok c.in_ok-word.ensures.2 c.in_ok-keys.ensures.2))

@@ -11,7 +11,9 @@ returns-then-not-eat_word c = (None, refl, none_left _ _ _ _ c.if-not-eat_word.e
 pub returns-in_err-name : goal.returns-in_err-name
 unfolding label
 returns-in_err-name c =
-    gives_ended _ _ _ _ _ (ended_some _ c.if-not-eat_word.ensures.1 (ended_seen _ (ended_second c.if-not-eat_word.ensures.0 (ended _ _ _ _ _ c.from_residual.ensures.1 c.in_err-name.ensures))))
+    gives_ended _ _ _ _ _
+    (ended_some _ c.if-not-eat_word.ensures.1
+    (ended_seen _ (ended_second c.if-not-eat_word.ensures.0 (ended _ _ _ _ _ c.from_residual.ensures.1 c.in_err-name.ensures))))
 
 pub returns : goal.returns
 unfolding label

@@ -1,5 +1,4 @@
-use Rattle.sql_tree.specs.Parts as parts
-use Rattle.sql_parser.specs.Productions.{value, value_of}
+use Rattle.sql_parser.specs.Productions.{value}
 use Rattle.sql_parser.proofs.Steps.{gives}
 use Rattle.sql_parser.proofs.parts.read_value.Goals as goal
 

@@ -9,13 +9,17 @@ returns-in_err-sign c = gives_ended _ _ _ _ _ (ended_seen _ (ended_first _ (ende
 pub returns-in_err-values : goal.returns-in_err-values
 unfolding values
 returns-in_err-values c =
-    gives_ended _ _ _ _ _ (ended_seen _ (ended_second c.in_ok-sign.ensures.2 (ended_first _ (ended _ _ _ _ _ c.from_residual-in_err-values.ensures.1 c.in_err-values.ensures))))
+    gives_ended _ _ _ _ _
+    (ended_seen _ (ended_second c.in_ok-sign.ensures.2 (ended_first _ (ended _ _ _ _ _ c.from_residual-in_err-values.ensures.1 c.in_err-values.ensures))))
 
 pub returns-in_err-sign-2 : goal.returns-in_err-sign-2
 unfolding values
 returns-in_err-sign-2 c =
-    gives_ended _ _ _ _ _ (ended_seen _ (ended_second c.in_ok-sign.ensures.2 (ended_second c.in_ok-values.ensures.2 (ended _ _ _ _ _ c.from_residual-in_err-sign-2.ensures.1 c.in_err-sign-2.ensures))))
+    gives_ended _ _ _ _ _
+    (ended_seen _
+    (ended_second c.in_ok-sign.ensures.2
+    (ended_second c.in_ok-values.ensures.2 (ended _ _ _ _ _ c.from_residual-in_err-sign-2.ensures.1 c.in_err-sign-2.ensures))))
 
 pub returns : goal.returns
 unfolding values
-returns c = (c.in_ok-values.ensures.0, c.in_ok-values.ensures.1, (seen_ok _ (both_ok c.in_ok-sign.ensures.2 (both_ok c.in_ok-values.ensures.2 c.in_ok-sign-2.ensures.2))))
+returns c = (c.in_ok-values.ensures.0, c.in_ok-values.ensures.1, seen_ok _ (both_ok c.in_ok-sign.ensures.2 (both_ok c.in_ok-values.ensures.2 c.in_ok-sign-2.ensures.2)))

@@ -8,7 +8,9 @@ returns-then-not-eat_word c = (None, refl, none_left _ _ _ _ c.if-not-eat_word.e
 
 pub returns-in_err-bound : goal.returns-in_err-bound
 returns-in_err-bound c =
-    gives_ended _ _ _ _ _ (ended_some _ c.if-not-eat_word.ensures.1 (ended_seen _ (ended_second c.if-not-eat_word.ensures.0 (ended _ _ _ _ _ c.from_residual.ensures.1 c.in_err-bound.ensures))))
+    gives_ended _ _ _ _ _
+    (ended_some _ c.if-not-eat_word.ensures.1
+    (ended_seen _ (ended_second c.if-not-eat_word.ensures.0 (ended _ _ _ _ _ c.from_residual.ensures.1 c.in_err-bound.ensures))))
 
 pub returns : goal.returns
 returns c =

@@ -13,7 +13,11 @@ more-init c = listing_begins _ _ _ _
 
 pub returns-in_err-next : goal.returns-in_err-next
 returns-in_err-next c =
-    gives_ended _ _ _ _ _ (ended_seen _ (ended_second c.in_ok-first.ensures.2 (listing_stuck c.more.invariant c.more-test.ensures.0 c.more-test.ensures.1 (ended _ _ _ _ _ c.from_residual-in_err-next.ensures.1 c.in_err-next.ensures))))
+    gives_ended _ _ _ _ _
+    (ended_seen _
+    (ended_second c.in_ok-first.ensures.2
+    (listing_stuck c.more.invariant c.more-test.ensures.0 c.more-test.ensures.1
+    (ended _ _ _ _ _ c.from_residual-in_err-next.ensures.1 c.in_err-next.ensures))))
 
 pub more-preserved : goal.more-preserved
 more-preserved c = listing_step c.more.invariant c.more-test.ensures.0 c.more-test.ensures.1 c.in_ok-next.ensures.1 c.in_ok-next.ensures.2 c.in_ok-push-2.ensures.ok

@@ -16,12 +16,18 @@ returns-in_err-sign c =
 pub returns-in_err-names : goal.returns-in_err-names
 unfolding names
 returns-in_err-names c =
-    gives_ended _ _ _ _ _ (ended_some _ c.if-not-is_sign.ensures (ended_seen _ (ended_second c.in_ok-sign.ensures.2 (ended_first _ (ended _ _ _ _ _ c.from_residual-in_err-names.ensures.1 c.in_err-names.ensures)))))
+    gives_ended _ _ _ _ _
+    (ended_some _ c.if-not-is_sign.ensures
+    (ended_seen _ (ended_second c.in_ok-sign.ensures.2 (ended_first _ (ended _ _ _ _ _ c.from_residual-in_err-names.ensures.1 c.in_err-names.ensures)))))
 
 pub returns-in_err-sign-2 : goal.returns-in_err-sign-2
 unfolding names
 returns-in_err-sign-2 c =
-    gives_ended _ _ _ _ _ (ended_some _ c.if-not-is_sign.ensures (ended_seen _ (ended_second c.in_ok-sign.ensures.2 (ended_second c.in_ok-names.ensures.2 (ended _ _ _ _ _ c.from_residual-in_err-sign-2.ensures.1 c.in_err-sign-2.ensures)))))
+    gives_ended _ _ _ _ _
+    (ended_some _ c.if-not-is_sign.ensures
+    (ended_seen _
+    (ended_second c.in_ok-sign.ensures.2
+    (ended_second c.in_ok-names.ensures.2 (ended _ _ _ _ _ c.from_residual-in_err-sign-2.ensures.1 c.in_err-sign-2.ensures)))))
 
 pub returns : goal.returns
 unfolding names

@@ -10,7 +10,9 @@ returns-then-not-eat_word c = (None, c.new.ensures, none_left _ _ _ _ c.if-not-e
 pub returns-in_err-keys : goal.returns-in_err-keys
 unfolding order_clause
 returns-in_err-keys c =
-    gives_ended _ _ _ _ _ (ended_some _ c.if-not-eat_word.ensures.1 (ended_seen _ (ended_second c.if-not-eat_word.ensures.0 (ended _ _ _ _ _ c.from_residual.ensures.1 c.in_err-keys.ensures))))
+    gives_ended _ _ _ _ _
+    (ended_some _ c.if-not-eat_word.ensures.1
+    (ended_seen _ (ended_second c.if-not-eat_word.ensures.0 (ended _ _ _ _ _ c.from_residual.ensures.1 c.in_err-keys.ensures))))
 
 pub returns : goal.returns
 unfolding order_clause

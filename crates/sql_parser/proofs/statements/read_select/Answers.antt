@@ -11,32 +11,57 @@ returns-in_err-items c = gives_ended _ _ _ _ _ (ended_seen _ (ended_first _ (end
 pub returns-in_err-word : goal.returns-in_err-word
 unfolding select
 returns-in_err-word c =
-    gives_ended _ _ _ _ _ (ended_seen _ (ended_second c.in_ok-items.ensures.2 (ended_first _ (ended_seen _ (ended_first _ (ended _ _ _ _ _ c.from_residual-in_err-word.ensures.1 c.in_err-word.ensures))))))
+    gives_ended _ _ _ _ _
+    (ended_seen _
+    (ended_second c.in_ok-items.ensures.2
+    (ended_first _ (ended_seen _ (ended_first _ (ended _ _ _ _ _ c.from_residual-in_err-word.ensures.1 c.in_err-word.ensures))))))
 
 pub returns-in_err-table : goal.returns-in_err-table
 unfolding select
 returns-in_err-table c =
-    gives_ended _ _ _ _ _ (ended_seen _ (ended_second c.in_ok-items.ensures.2 (ended_first _ (ended_seen _ (ended_second c.in_ok-word.ensures.2 (ended _ _ _ _ _ c.from_residual-in_err-table.ensures.1 c.in_err-table.ensures))))))
+    gives_ended _ _ _ _ _
+    (ended_seen _
+    (ended_second c.in_ok-items.ensures.2
+    (ended_first _ (ended_seen _ (ended_second c.in_ok-word.ensures.2 (ended _ _ _ _ _ c.from_residual-in_err-table.ensures.1 c.in_err-table.ensures))))))
 
 pub returns-in_err-filter : goal.returns-in_err-filter
 unfolding select
 returns-in_err-filter c =
-    gives_ended _ _ _ _ _ (ended_seen _ (ended_second c.in_ok-items.ensures.2 (ended_second (seen_ok _ (both_ok c.in_ok-word.ensures.2 c.in_ok-table.ensures.2)) (ended_first _ (ended _ _ _ _ _ c.from_residual-in_err-filter.ensures.1 c.in_err-filter.ensures)))))
+    gives_ended _ _ _ _ _
+    (ended_seen _
+    (ended_second c.in_ok-items.ensures.2
+    (ended_second (seen_ok _ (both_ok c.in_ok-word.ensures.2 c.in_ok-table.ensures.2))
+    (ended_first _ (ended _ _ _ _ _ c.from_residual-in_err-filter.ensures.1 c.in_err-filter.ensures)))))
 
 pub returns-in_err-order : goal.returns-in_err-order
 unfolding select
 returns-in_err-order c =
-    gives_ended _ _ _ _ _ (ended_seen _ (ended_second c.in_ok-items.ensures.2 (ended_second (seen_ok _ (both_ok c.in_ok-word.ensures.2 c.in_ok-table.ensures.2)) (ended_second c.in_ok-filter.ensures.2 (ended_first _ (ended _ _ _ _ _ c.from_residual-in_err-order.ensures.1 c.in_err-order.ensures))))))
+    gives_ended _ _ _ _ _
+    (ended_seen _
+    (ended_second c.in_ok-items.ensures.2
+    (ended_second (seen_ok _ (both_ok c.in_ok-word.ensures.2 c.in_ok-table.ensures.2))
+    (ended_second c.in_ok-filter.ensures.2 (ended_first _ (ended _ _ _ _ _ c.from_residual-in_err-order.ensures.1 c.in_err-order.ensures))))))
 
 pub returns-in_err-limit : goal.returns-in_err-limit
 unfolding select
 returns-in_err-limit c =
-    gives_ended _ _ _ _ _ (ended_seen _ (ended_second c.in_ok-items.ensures.2 (ended_second (seen_ok _ (both_ok c.in_ok-word.ensures.2 c.in_ok-table.ensures.2)) (ended_second c.in_ok-filter.ensures.2 (ended_second c.in_ok-order.ensures.2 (ended_first _ (ended _ _ _ _ _ c.from_residual-in_err-limit.ensures.1 c.in_err-limit.ensures)))))))
+    gives_ended _ _ _ _ _
+    (ended_seen _
+    (ended_second c.in_ok-items.ensures.2
+    (ended_second (seen_ok _ (both_ok c.in_ok-word.ensures.2 c.in_ok-table.ensures.2))
+    (ended_second c.in_ok-filter.ensures.2
+    (ended_second c.in_ok-order.ensures.2 (ended_first _ (ended _ _ _ _ _ c.from_residual-in_err-limit.ensures.1 c.in_err-limit.ensures)))))))
 
 pub returns-in_err-offset : goal.returns-in_err-offset
 unfolding select
 returns-in_err-offset c =
-    gives_ended _ _ _ _ _ (ended_seen _ (ended_second c.in_ok-items.ensures.2 (ended_second (seen_ok _ (both_ok c.in_ok-word.ensures.2 c.in_ok-table.ensures.2)) (ended_second c.in_ok-filter.ensures.2 (ended_second c.in_ok-order.ensures.2 (ended_second c.in_ok-limit.ensures.2 (ended _ _ _ _ _ c.from_residual-in_err-offset.ensures.1 c.in_err-offset.ensures)))))))
+    gives_ended _ _ _ _ _
+    (ended_seen _
+    (ended_second c.in_ok-items.ensures.2
+    (ended_second (seen_ok _ (both_ok c.in_ok-word.ensures.2 c.in_ok-table.ensures.2))
+    (ended_second c.in_ok-filter.ensures.2
+    (ended_second c.in_ok-order.ensures.2
+    (ended_second c.in_ok-limit.ensures.2 (ended _ _ _ _ _ c.from_residual-in_err-offset.ensures.1 c.in_err-offset.ensures)))))))
 
 pub returns : goal.returns
 unfolding select
@@ -49,5 +74,8 @@ returns c =
     let offset = c.in_ok-offset.ensures in (
       select_of (items.0, (table.0, (filter.0, (order.0, (limit.0, offset.0))))),
       (λ i. record { statement = statement.Select (table.1 i) (items.1 i) (filter.1 i).cond (order.1 i) (limit.1 i) (offset.1 i); deepest = (filter.1 i).deepest }),
-      (seen_ok _ (both_ok c.in_ok-items.ensures.2 (both_ok (seen_ok _ (both_ok c.in_ok-word.ensures.2 c.in_ok-table.ensures.2)) (both_ok c.in_ok-filter.ensures.2 (both_ok c.in_ok-order.ensures.2 (both_ok c.in_ok-limit.ensures.2 c.in_ok-offset.ensures.2)))))),
+      seen_ok _
+          (both_ok c.in_ok-items.ensures.2
+          (both_ok (seen_ok _ (both_ok c.in_ok-word.ensures.2 c.in_ok-table.ensures.2))
+          (both_ok c.in_ok-filter.ensures.2 (both_ok c.in_ok-order.ensures.2 (both_ok c.in_ok-limit.ensures.2 c.in_ok-offset.ensures.2))))),
     )

@@ -11,7 +11,9 @@ returns-then-not-eat_word c = (None, refl, none_left _ _ _ _ c.if-not-eat_word.e
 pub returns-in_err-nested : goal.returns-in_err-nested
 unfolding where_clause
 returns-in_err-nested c =
-    gives_ended _ _ _ _ _ (ended_some _ c.if-not-eat_word.ensures.1 (ended_seen _ (ended_second c.if-not-eat_word.ensures.0 (ended _ _ _ _ _ c.from_residual.ensures.1 c.in_err-nested.ensures))))
+    gives_ended _ _ _ _ _
+    (ended_some _ c.if-not-eat_word.ensures.1
+    (ended_seen _ (ended_second c.if-not-eat_word.ensures.0 (ended _ _ _ _ _ c.from_residual.ensures.1 c.in_err-nested.ensures))))
 
 pub returns : goal.returns
 unfolding where_clause

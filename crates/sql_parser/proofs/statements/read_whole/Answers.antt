@@ -12,4 +12,4 @@ pub returns : goal.returns
 unfolding whole
 returns c =
     let start = c.in_ok-reading.ensures in
-    (record { body = start.0; semicolon = c.read_semicolon-semicolon.result }, start.1 ∙ body_is start.0, (seen_ok _ (both_ok c.in_ok-reading.ensures.2 c.read_semicolon-semicolon.ensures)))
+    (record { body = start.0; semicolon = c.read_semicolon-semicolon.result }, start.1 ∙ body_is start.0, seen_ok _ (both_ok c.in_ok-reading.ensures.2 c.read_semicolon-semicolon.ensures))

@@ -231,9 +231,9 @@ module _ {A B : Type 0} (tok : A → List Token) (made : A → B) (of : B → Li
   others_fine : (more : List A) → Possible (flat_map (λ b. t.Sign sign.Comma ∷ tok b) more) → Possible (flat_map (λ b. t.Sign sign.Comma ∷ of b) (map made more))
   others_fine [] p = tt
   others_fine (x ∷ more) p = (
-      p.0,
-      append (of (made x)) (flat_map (λ b. t.Sign sign.Comma ∷ of b) (map made more)) (fine x (front (tok x) _ p.1)) (others_fine more (back (tok x) _ p.1)),
-    )
+    p.0,
+    append (of (made x)) (flat_map (λ b. t.Sign sign.Comma ∷ of b) (map made more)) (fine x (front (tok x) _ p.1)) (others_fine more (back (tok x) _ p.1)),
+  )
 
   list_fine : (a : A) (more : List A) → Possible (listed tok a more) → Possible (commas of (map made (a ∷ more)))
   list_fine a more p = append (of (made a)) _ (fine a (front (tok a) _ p)) (others_fine more (back (tok a) _ p))
@@ -369,21 +369,42 @@ body_fine : (b : Body) → Possible (body_tokens b) → Possible (printed (body_
 body_fine (grammar.select q) p =
     let rest = (back (items_tokens q.items) _ p.1).1 in
     let later = back (where_tokens q.cond) _ rest.1 in
-    let late = back (optional order_tokens q.order) _ later in
-    (word_possible word.Select, append (items_shape (items_tree q.items)) _ (items_fine q.items (front (items_tokens q.items) _ p.1))
-    (word_possible word.From, (quoted_possible q.table.name q.table.quoted rest.0, append (where_shape (option_map cond_tree q.cond)) _ (where_fine q.cond (front (where_tokens q.cond) _ rest.1))
-    (append (order_shape (keys_of q.order)) _ (order_fine q.order (front (optional order_tokens q.order) _ later))
-    (append (bound_shape word.Limit (option_map (λ (b : Bound). b.number) q.limit)) _ (bound_fine word.Limit q.limit (front _ _ late)) (bound_fine word.Offset q.offset (back (optional (λ (b : Bound). t.Word word.Limit ∷ t.Number b.number ∷ []) q.limit) _ late)))))))
+    let late = back (optional order_tokens q.order) _ later in (
+      word_possible word.Select,
+      append (items_shape (items_tree q.items)) _ (items_fine q.items (front (items_tokens q.items) _ p.1)) (
+        word_possible word.From,
+        (
+          quoted_possible q.table.name q.table.quoted rest.0,
+          append (where_shape (option_map cond_tree q.cond)) _ (where_fine q.cond (front (where_tokens q.cond) _ rest.1))
+              (append (order_shape (keys_of q.order)) _ (order_fine q.order (front (optional order_tokens q.order) _ later))
+              (append (bound_shape word.Limit (option_map (λ (b : Bound). b.number) q.limit)) _ (bound_fine word.Limit q.limit (front _ _ late)) (bound_fine word.Offset q.offset (back (optional (λ (b : Bound). t.Word word.Limit ∷ t.Number b.number ∷ []) q.limit) _ late)))),
+        ),
+      ),
+    )
 body_fine (grammar.insert table names rows) p =
-    let rest = p.1.1.1 in
-    (word_possible word.Insert, (word_possible word.Into, (quoted_possible table.name table.quoted p.1.1.0,
-    append (optional (λ names. in_parens (commas quoted names)) (option_map (λ (l : Some1 Spelled). map (λ (n : Spelled). n.name) (all_of l)) names)) _ (names_fine names (front (optional names_tokens names) _ rest))
-    (word_possible word.Values, list_fine row_tokens (λ (r : Some1 Value). map value_operand (all_of r)) row_shape row_fine rows.first rows.more (back (optional names_tokens names) _ rest).1))))
+    let rest = p.1.1.1 in (
+      word_possible word.Insert,
+      (
+        word_possible word.Into,
+        (
+          quoted_possible table.name table.quoted p.1.1.0,
+          append (optional (λ names. in_parens (commas quoted names)) (option_map (λ (l : Some1 Spelled). map (λ (n : Spelled). n.name) (all_of l)) names)) _ (names_fine names (front (optional names_tokens names) _ rest))
+              (word_possible word.Values, list_fine row_tokens (λ (r : Some1 Value). map value_operand (all_of r)) row_shape row_fine rows.first rows.more (back (optional names_tokens names) _ rest).1),
+        ),
+      ),
+    )
 body_fine (grammar.update table pairs cond) p =
-    let rest = p.1.1.1 in
-    (word_possible word.Update, (quoted_possible table.name table.quoted p.1.0,
-    (word_possible word.Set, append (commas pair_shape (map pair_tree (all_of pairs))) _ (list_fine pair_tokens pair_tree pair_shape pair_fine pairs.first pairs.more (front (listed pair_tokens pairs.first pairs.more) _ rest))
-    (where_fine cond (back (listed pair_tokens pairs.first pairs.more) _ rest)))))
+    let rest = p.1.1.1 in (
+      word_possible word.Update,
+      (
+        quoted_possible table.name table.quoted p.1.0,
+        (
+          word_possible word.Set,
+          append (commas pair_shape (map pair_tree (all_of pairs))) _ (list_fine pair_tokens pair_tree pair_shape pair_fine pairs.first pairs.more (front (listed pair_tokens pairs.first pairs.more) _ rest))
+              (where_fine cond (back (listed pair_tokens pairs.first pairs.more) _ rest)),
+        ),
+      ),
+    )
 body_fine (grammar.delete table cond) p = (word_possible word.Delete, (word_possible word.From, (quoted_possible table.name table.quoted p.1.1.0, where_fine cond p.1.1.1)))
 body_fine (grammar.set name to value) p = (word_possible word.Set, (quoted_possible name.name name.quoted p.1.0, (sign_possible sign.Equal, setting_fine value p.1.1.1)))
 

@@ -4,11 +4,12 @@
 mod comparison;
 mod conditions;
 mod cursor;
-mod laws;
 mod items;
+mod laws;
 mod levels;
 mod made;
 mod outside;
+mod parameters;
 mod parsing;
 mod parts;
 mod refusal;

@@ -25,3 +25,4 @@ pub mod Shrinking
 pub mod Lists
 pub mod Chosen
 pub mod Small
+pub mod Deep

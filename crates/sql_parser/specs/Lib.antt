@@ -11,3 +11,4 @@ pub mod Levels
 pub mod Laws
 pub mod Tests
 pub mod Clauses
+pub mod Judging

@@ -4,6 +4,7 @@
 mod comparison;
 mod conditions;
 mod cursor;
+mod depth;
 mod items;
 mod laws;
 mod levels;
@@ -12,6 +13,7 @@ mod outside;
 mod parameters;
 mod parsing;
 mod parts;
+mod qualifiers;
 mod refusal;
 mod statements;
 mod stop;

@@ -1,0 +1,56 @@
+-- What becomes of the tokens of a text whose first tokens begin a statement of the profile.
+use Rattle.std.specs.Prelude.{ℕ, ◌≡◌, nat_eq, Bool, true, false, List, [], Option, Some, None, Result, Ok, Err}
+use Rattle.std.specs.List.{list_all}
+use Rattle.std.specs.Cmp.Lexicographic.{pointwise}
+use Rattle.sql_tokens.specs.declared.token.Token.{Token}
+use Rattle.sql_tokens.specs.declared.token.Placed.{Placed}
+use Rattle.sql_tree.specs.declared.statement.Statement.{Statement}
+use Rattle.sql_tree.specs.declared.statement.Statement.TheVariants as statement
+use Rattle.sql_tree.specs.Grammar.{Text, text_tokens}
+use Rattle.sql_tree.specs.Spelling.{Spells, tokens_of}
+use Rattle.sql_parser.specs.declared.made.Reading.{Reading}
+use Rattle.sql_parser.specs.declared.refusal.SqlKind.TheVariants as kind
+use Rattle.sql_parser.specs.declared.refusal.ParseFault.{ParseFault}
+use Rattle.sql_parser.specs.declared.refusal.ParseFault.TheVariants as fault
+use Rattle.sql_parser.specs.Made.{whole_reading}
+use Rattle.sql_parser.specs.Outcome.{IsFault, place_after, is_shallow}
+use Rattle.sql_parser.specs.Passes.{before_dots}
+
+-- the names before dots are the table's
+abbrev pub agree : List ℕ → List Token → Bool
+agree table ts = list_all (λ q. pointwise nat_eq q table) (before_dots ts)
+
+-- where the statement has a table with columns
+abbrev pub qualifiers_agree : Statement → List Token → Bool
+qualifiers_agree (statement.Select table items cond order limit offset) ts = agree table ts
+qualifiers_agree (statement.Update table sets cond) ts = agree table ts
+qualifiers_agree (statement.Delete table cond) ts = agree table ts
+qualifiers_agree _ ts = true
+
+-- the tokens derive a text, of which this was made
+pub record WasRead (placed : List Placed) (reading : Reading) : Type 0 where
+  pub text : Text
+  pub derives : tokens_of placed ≡ text_tokens text
+  pub is : reading ≡ whole_reading text
+
+-- the tokens spell the statement, as shallow as this says
+pub record TokensSpell (ts : List Token) (shallow : Bool) (tree : Statement) : Type 0 where
+  pub spells : Spells ts tree
+  pub depth : is_shallow spells.by tree ≡ shallow
+
+-- the tokens stop being a text of the grammar, or all of them are one that breaks a side condition
+pub record TokensFail (placed : List Placed) (bad : Option ℕ) (end place : ℕ) : Type 0 where
+  pub rest : List Placed
+  pub fault : IsFault placed rest
+  pub at : place ≡ place_after rest bad end
+  pub none : rest ≡ [] → bad ≡ None → (tree : Statement) → Spells (tokens_of placed) tree → ⊥
+
+abbrev pub TokensGive : List Placed → Option ℕ → ℕ → Result Statement ParseFault → Type 0
+TokensGive placed bad end (Ok tree) = (bad ≡ None) × TokensSpell (tokens_of placed) true tree
+TokensGive placed bad end (Err fault.NoMemory) = Unit {0}
+TokensGive placed bad end (Err (fault.Refused r)) = elim (r.kind) [
+  | kind.TooLong ↦ ⊥
+  | kind.OutsideProfile ↦ ⊥
+  | kind.Syntax ↦ TokensFail placed bad end r.place
+  | kind.TooDeep ↦ (bad ≡ None) × (r.place ≡ end) × ((tree : Statement) × TokensSpell (tokens_of placed) false tree)
+]

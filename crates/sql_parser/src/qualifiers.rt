@@ -1,0 +1,62 @@
+//! The names that stand before columns.
+
+ghost use Rattle.std.specs.Prelude.{◌≡◌, not};
+ghost use Rattle.std.specs.List.{list_all};
+ghost use Rattle.std.specs.Prelude.{nat_eq};
+ghost use Rattle.std.specs.Cmp.Lexicographic.{pointwise};
+ghost use Rattle.sql_tree.specs.Spelling.{tokens_of};
+ghost use Rattle.sql_parser.specs.Passes.{dot_first, named};
+ghost use Rattle.sql_parser.specs.Judging as judging;
+
+use sql_tokens::{Placed, Sign, Token};
+use sql_tree::Statement;
+
+fn begins_with_dot(tokens: &[Placed]) -> bool
+    ensures { result ≡ dot_first (tokens_of tokens.now) }
+{
+    let [first, ..] = tokens else {
+        return false;
+    };
+    match &first.token {
+        Token::Sign(sign) => matches!(sign, Sign::Dot),
+        _ => false,
+    }
+}
+
+/// Whether it is another name than the table's, where a dot follows.
+fn is_another(token: &Token, dotted: bool, table: &[u8]) -> bool
+    ensures { result ≡ not (list_all (λ q. pointwise nat_eq q table.now) (named dotted token.now)) }
+{
+    match token {
+        Token::Name { name, .. } => dotted && name.as_slice() != table,
+        _ => false,
+    }
+}
+
+fn agree(tokens: &[Placed], table: &[u8]) -> bool
+    ensures { result ≡ judging.agree table.now (tokens_of tokens.now) }
+{
+    let mut rest = tokens;
+    'tokens: loop {
+        let [first, others @ ..] = rest else {
+            return true;
+        };
+        let dotted = begins_with_dot(others);
+        if is_another(&first.token, dotted, table) {
+            return false;
+        }
+        rest = others;
+    }
+}
+
+/// Whether each name before a dot is that of the statement's table.
+pub(crate) fn qualifiers_agree(statement: &Statement, tokens: &[Placed]) -> bool
+    ensures { result ≡ judging.qualifiers_agree statement.now (tokens_of tokens.now) }
+{
+    match statement {
+        Statement::Select { table, .. } => agree(tokens, table.as_slice()),
+        Statement::Update { table, .. } => agree(tokens, table.as_slice()),
+        Statement::Delete { table, .. } => agree(tokens, table.as_slice()),
+        _ => true,
+    }
+}

@@ -26,3 +26,4 @@ pub mod Lists
 pub mod Chosen
 pub mod Small
 pub mod Deep
+pub mod Judged

@@ -1,6 +1,6 @@
 //! The tokens that are left, one by one.
 
-ghost use Rattle.std.specs.Prelude.{◌≡◌, ◌∷◌, [], ◌<◌, ◌^◌, IfOk, ℕ, List, MatchOption, neg_ℤ, pos, is_some};
+ghost use Rattle.std.specs.Prelude.{◌≡◌, ◌∷◌, [], length, ◌<◌, ◌^◌, IfOk, ℕ, List, MatchOption, neg_ℤ, pos, is_some};
 ghost use Rattle.sql_tokens.specs.declared.token.Token.{Token};
 ghost use Rattle.sql_tree.specs.Spelling.{tokens_of};
 ghost use Rattle.sql_tree.specs.Parts.{Spelled};
@@ -103,6 +103,13 @@ impl<'a> Cursor<'a> {
         ensures { result ≡ tokens_of tokens.now }
     {
         Cursor { rest: tokens }
+    }
+
+    /// How many tokens are left.
+    pub(crate) fn len(&self) -> usize
+        ensures { result ≡ length self.now }
+    {
+        self.rest.len()
     }
 
     fn first(&self) -> Option<&'a Token>

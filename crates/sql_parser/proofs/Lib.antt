@@ -12,6 +12,7 @@ pub mod Wholes
 pub mod Outcomes
 pub mod Dots
 pub mod Numbers
+pub mod Gapless
 pub mod Steps
 pub mod Taken
 pub mod Named

@@ -27,8 +27,8 @@ mem_whole s = s.wire.whole
 
 -- the numbers of the calls that fail
 abbrev pub mem_failing : MemLink → List ℕ
-mem_failing s = s.failing.items
+mem_failing s = s.calls.failing.items
 
 -- how many calls were made
 abbrev pub mem_calls : MemLink → ℕ
-mem_calls s = s.calls
+mem_calls s = s.calls.made

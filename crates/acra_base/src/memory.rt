@@ -2,6 +2,7 @@ ghost use Rattle.std.specs.Prelude.{◌≡◌, ◌≢◌, ◌≤◌, ◌<◌, �
 ghost use Rattle.acra_base.specs.Known.{Grew, Shrank, IsAtEnd, ReadGives, WriteTakes};
 ghost use Rattle.acra_base.specs.Causes.{HasCause, TakesSome};
 
+use crate::calls::Calls;
 use crate::device::{Failed, Link, Sink, Source};
 use crate::wire::Wire;
 use std::alloc::Global;
@@ -88,8 +89,7 @@ impl Link for SureLink {
 #[derive(Drop)]
 pub struct MemLink {
     wire: Wire,
-    failing: Vec<u64>,
-    calls: u64,
+    calls: Calls,
     read_faults: u64,
     write_faults: u64,
 }
@@ -108,8 +108,7 @@ impl MemLink {
     {
         MemLink {
             wire: Wire::new(alloc, input),
-            failing,
-            calls: 0,
+            calls: Calls::new(failing),
             read_faults: 0,
             write_faults: 0,
         }
@@ -127,16 +126,6 @@ impl MemLink {
         ensures { result ≡ mem_whole self.now }
     {
         self.wire.whole()
-    }
-
-    // Whether the call that is made now fails. It is counted.
-    fn fails(&mut self) -> bool
-        ensures answer { IsTrue result ↔ Contains (mem_failing self.old) (mem_calls self.old) }
-        ensures after { self.new ≡ record self.old { calls = min (self.old.calls + 1) (2 ^ 64 - 1) } }
-    {
-        let call = self.calls;
-        self.calls = self.calls.saturating_add(1);
-        self.failing.contains(&call)
     }
 }
 
@@ -163,7 +152,7 @@ impl Source for MemLink {
         ensures counted { mem_calls self.new ≡ min (mem_calls self.old + 1) (2 ^ 64 - 1) }
         ensures listed { mem_failing self.new ≡ mem_failing self.old }
     {
-        if self.fails() {
+        if self.calls.fails() {
             self.read_faults = self.read_faults.saturating_add(1);
             return Err(Failed);
         }
@@ -193,7 +182,7 @@ impl Sink for MemLink {
         ensures counted { mem_calls self.new ≡ min (mem_calls self.old + 1) (2 ^ 64 - 1) }
         ensures listed { mem_failing self.new ≡ mem_failing self.old }
     {
-        if self.fails() {
+        if self.calls.fails() {
             self.write_faults = self.write_faults.saturating_add(1);
             return Err(Failed);
         }

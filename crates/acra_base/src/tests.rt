@@ -96,6 +96,68 @@ fn sure_link(rt: HostRuntime) -> Result<(), Fail> {
 }
 
 #[test]
+fn listed_keeper_calls_fail(rt: HostRuntime) -> Result<(), Fail> {
+    let alloc = rt.alloc();
+    let cases: [(u64, &[&[u8]]); 5] = [
+        (0, &[b"c", b"d"]),
+        (1, &[b"c", b"d"]),
+        (2, &[b"a", b"b", b"d"]),
+        (3, &[b"c"]),
+        (4, &[b"c", b"d"]),
+    ];
+    for (failing, pieces) in cases {
+        let mut keeper = MemKeeper::new(alloc, vec![in alloc; failing]?);
+        let answers = [
+            keeper.append(b"a"),
+            keeper.append(b"b"),
+            keeper.replace(b"c"),
+            keeper.append(b"d"),
+        ];
+        for (call, answer) in answers.iter().enumerate() {
+            let fails = call as u64 == failing;
+            assert_eq!(rt;
+                answer.is_err(),
+                fails,
+                "call {call}, where {failing} fails"
+            );
+        }
+        assert!(rt; keeper.whole());
+        assert_eq!(rt; keeper.kept().len(), pieces.len(), "where {failing} fails");
+        for (kept, piece) in keeper.kept().iter().zip(pieces) {
+            assert_eq!(rt; kept.as_slice(), *piece, "where {failing} fails");
+        }
+    }
+    Ok(())
+}
+
+#[test]
+fn sure_keeper(rt: HostRuntime) {
+    let mut keeper = SureKeeper::new(rt.alloc());
+    for piece in [b"ab", b"cd"] {
+        assert_eq!(rt; keeper.append(piece), Ok(()));
+    }
+    assert_eq!(rt; keeper.kept().len(), 2);
+    assert_eq!(rt; keeper.replace(b"efg"), Ok(()));
+    assert!(rt; keeper.whole());
+    assert_eq!(rt; keeper.kept().len(), 1);
+    assert_eq!(rt; keeper.kept()[0].as_slice(), b"efg".as_slice());
+}
+
+#[test]
+fn listed_draws_fail(rt: HostRuntime) -> Result<(), Fail> {
+    let alloc = rt.alloc();
+    let mut random = SeedRandom::new(1, vec![in alloc; 0, 2]?);
+    for (answer, place) in [(Err(Failed), 0), (Ok(()), 0), (Err(Failed), 0), (Ok(()), 8)] {
+        let mut bytes = [0; 8];
+        assert_eq!(rt; random.draw(&mut bytes), answer);
+        if answer.is_ok() {
+            assert_eq!(rt; bytes.as_slice(), &STREAM[place..place + 8]);
+        }
+    }
+    Ok(())
+}
+
+#[test]
 fn trial_cipher(rt: HostRuntime) -> Result<(), Fail> {
     let alloc = rt.alloc();
     let (key, nonce) = ([0x0f; 32], [0x30; 12]);

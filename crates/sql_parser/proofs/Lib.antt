@@ -8,6 +8,10 @@ pub mod Tests
 pub mod Conds
 pub mod Selects
 pub mod Texts
+pub mod Wholes
+pub mod Outcomes
+pub mod Dots
+pub mod Numbers
 pub mod Steps
 pub mod Taken
 pub mod Named
@@ -18,3 +22,4 @@ pub mod Shrinking
 pub mod Lists
 pub mod Chosen
 pub mod Small
+pub mod Parsed

@@ -3,7 +3,11 @@ pub mod Looks
 pub mod Productions
 pub mod Reads
 pub mod Made
+pub mod Outside
+pub mod Outcome
+pub mod Passes
 pub mod Cursor
 pub mod Levels
 pub mod Tests
 pub mod Clauses
+pub mod Laws

@@ -7,6 +7,7 @@ use Rattle.sql_tree.specs.declared.statement.Statement.{Statement}
 use Rattle.sql_tree.specs.declared.statement.Statement.TheVariants as statement
 use Rattle.sql_tree.specs.Parts.{Spelled, Value, value_operand}
 use Rattle.sql_tree.specs.Conditions.{Cond, cond_tree, cond_open}
+use Rattle.sql_tree.specs.Depths.{filter_open}
 use Rattle.sql_tree.specs.Grammar.{Some1, all_of, Bound, Select, Body, select, insert, update, delete, set, Text, items_tree, key_tree, pair_tree, setting_operand}
 use Rattle.sql_parser.specs.declared.made.Nested.{Nested}
 use Rattle.sql_parser.specs.declared.made.Filter.{Filter}
@@ -17,10 +18,6 @@ kept d = if nat_le (cond_open d) 128 then cond_tree d else tree.And []
 
 abbrev pub nested : Cond → Nested
 nested d = record { cond = kept d; deepest = cond_open d }
-
-abbrev pub filter_open : Option Cond → ℕ
-filter_open None = 0
-filter_open (Some d) = cond_open d
 
 abbrev pub filter : Option Cond → Filter
 filter cond = record { cond = option_map kept cond; deepest = filter_open cond }

@@ -1,5 +1,5 @@
 -- The canonical tokens of a statement are derived.
-use Rattle.std.proofs.Common.{◌≡◌, ℕ, suc, pos, negsuc, Bool, true, false, ◌&&◌, List, [], ◌∷◌, ◌++◌, map, append-nil, refl, sym, ap, ◌∙◌, subst, arith}
+use Rattle.std.proofs.Common.{◌≡◌, ℕ, suc, pos, negsuc, Bool, true, false, ◌&&◌, List, [], ◌∷◌, ◌++◌, map, append-nil, refl, sym, ap, ◌∙◌, subst, arith, ◌≤◌}
 use Rattle.std.specs.Prelude.{Option, Some, None, Contains, option_map, codes, if◌then◌else◌}
 use Rattle.std.specs.List.{flat_map, list_all}
 use Rattle.std.proofs.lemmas.Bool.Decides.{nat_tests}
@@ -25,6 +25,7 @@ use Rattle.sql_tree.specs.Shapes.{quoted, operand_shape, commas, in_parens, labe
 use Rattle.sql_tree.specs.WellFormed.{is_value, is_setting, has_one, all_shaped, is_row, is_bound, has_items, has_names, is_grammatical}
 use Rattle.sql_tree.proofs.Deriving.{both_true, as_value, plain, plain_value, none_before, each, derived}
 use Rattle.sql_tree.specs.Spelling.{IsQualified, Spells}
+use Rattle.sql_tree.specs.Depths.{filter_open, body_open, text_open, filter_depth, statement_depth}
 use Rattle.sql_tree.specs.Laws.{IsStatement}
 use Rattle.sql_tree.specs.Spelling.{TextSpells}
 use Rattle.sql_tree.specs.Canonical.{canon}
@@ -112,9 +113,9 @@ as_bound w (Some n) h = (Some (record { number = n; below = grind (arith, nat_te
 abbrev before_cond : Option Cond → List (List ℕ)
 before_cond cond = elim cond [ None ↦ [] | Some c ↦ cond_qualifiers c ]
 
-as_where : (c : Option trees.Cond) → all_shaped c ≡ true → (d : Option Cond) × (option_map cond_tree d ≡ c) × (where_tokens d ≡ where_shape c) × (before_cond d ≡ [])
-as_where None h = (None, refl, refl, refl)
-as_where (Some c) h = let d = derived c h in (Some d.0, ap Some d.1, ap (λ (xs : List Token). t.Word word.Where ∷ xs) (sym d.2), d.3)
+as_where : (c : Option trees.Cond) → all_shaped c ≡ true → (d : Option Cond) × (option_map cond_tree d ≡ c) × (where_tokens d ≡ where_shape c) × (before_cond d ≡ []) × (filter_open d ≤ filter_depth c)
+as_where None h = (None, refl, refl, refl, omega arith)
+as_where (Some c) h = let d = derived c h in (Some d.0, ap Some d.1, ap (λ (xs : List Token). t.Word word.Where ∷ xs) (sym d.2), d.3, d.4)
 
 abbrev names_of : Option (Some1 Spelled) → Option (List (List ℕ))
 names_of names = option_map (λ (l : Some1 Spelled). map (λ (n : Spelled). n.name) (all_of l)) names
@@ -175,7 +176,7 @@ as_setting (operand.Parameter n) h = cc
 
 -- a body, before whose columns no name stands
 abbrev AsBody : Statement → Type 0
-AsBody x = (b : Body) × (body_tree b ≡ x) × (body_tokens b ≡ printed x) × (body_qualifiers b ≡ [])
+AsBody x = (b : Body) × (body_tree b ≡ x) × (body_tokens b ≡ printed x) × (body_qualifiers b ≡ []) × (body_open b ≤ statement_depth x)
 
 as_select : (table : List ℕ) (all : trees_items.Items) (cond : Option trees.Cond) (order : List OrderKey) (limit offset : Option ℕ)
     → (has_items all && (all_shaped cond && (is_bound limit && is_bound offset))) ≡ true → AsBody (statement.Select table all cond order limit offset)
@@ -193,6 +194,7 @@ as_select table all cond order limit offset h =
       (λ i. statement.Select table (a.1 i) (c.1 i) (o.1 i) (l.1 i) (f.1 i)),
       (λ i. t.Word word.Select ∷ (a.2 i ++ t.Word word.From ∷ (quoted table ++ (c.2 i ++ (o.2 i ++ (l.2 i ++ f.2 i)))))),
       (λ i. a.3 i ++ (c.3 i ++ o.3 i)),
+      c.4,
     )
 
 as_insert : (table : List ℕ) (columns : Option (List (List ℕ))) (rows : List (List Operand)) → (has_names columns && (has_one rows && list_all is_row rows)) ≡ true → AsBody (statement.Insert table columns rows)
@@ -205,6 +207,7 @@ as_insert table columns rows h =
       (λ i. statement.Insert table (n.1 i) (r.1 i)),
       (λ i. t.Word word.Insert ∷ t.Word word.Into ∷ (quoted table ++ (n.2 i ++ t.Word word.Values ∷ r.2 i))),
       refl,
+      omega arith,
     )
 
 as_update : (table : List ℕ) (sets : List SetPair) (cond : Option trees.Cond) → (has_one sets && (list_all (λ (p : SetPair). is_value p.value) sets && all_shaped cond)) ≡ true → AsBody (statement.Update table sets cond)
@@ -218,23 +221,24 @@ as_update table sets cond h =
       (λ i. statement.Update table (s.1 i) (c.1 i)),
       (λ i. t.Word word.Update ∷ (quoted table ++ t.Word word.Set ∷ (s.2 i ++ c.2 i))),
       c.3,
+      c.4,
     )
 
 as_delete : (table : List ℕ) (cond : Option trees.Cond) → all_shaped cond ≡ true → AsBody (statement.Delete table cond)
 unfolding spelled
 as_delete table cond h =
     let c = as_where cond h in
-    (Body.delete (spelled table) c.0, (λ i. statement.Delete table (c.1 i)), (λ i. t.Word word.Delete ∷ t.Word word.From ∷ (quoted table ++ c.2 i)), c.3)
+    (Body.delete (spelled table) c.0, (λ i. statement.Delete table (c.1 i)), (λ i. t.Word word.Delete ∷ t.Word word.From ∷ (quoted table ++ c.2 i)), c.3, c.4)
 
 as_set : (name : List ℕ) (value : Operand) → is_setting value ≡ true → AsBody (statement.Set name value)
 unfolding spelled
 as_set name value h =
     let s = as_setting value h in
-    (Body.set (spelled name) false s.0, (λ i. statement.Set name (s.1 i)), (λ i. t.Word word.Set ∷ (quoted name ++ t.Sign sign.Equal ∷ s.2 i)), refl)
+    (Body.set (spelled name) false s.0, (λ i. statement.Set name (s.1 i)), (λ i. t.Word word.Set ∷ (quoted name ++ t.Sign sign.Equal ∷ s.2 i)), refl, omega arith)
 
 -- a whole text
 pub AsText : Statement → Type 0
-AsText x = (b : Option Body) × (text_tree (record { body = b; semicolon = false }) ≡ x) × (printed x ≡ text_tokens (record { body = b; semicolon = false })) × IsQualified b
+AsText x = (b : Option Body) × (text_tree (record { body = b; semicolon = false }) ≡ x) × (printed x ≡ text_tokens (record { body = b; semicolon = false })) × IsQualified b × (text_open (record { body = b; semicolon = false }) ≤ statement_depth x)
 
 qualified : (b : Body) → body_qualifiers b ≡ [] → IsQualified (Some b)
 qualified b none q is = absurd (Contains-nil (subst (λ (xs : List (List ℕ)). Contains xs q) none is))
@@ -244,11 +248,11 @@ qualified b none q is = absurd (Contains-nil (subst (λ (xs : List (List ℕ)). 
 
 of_body : (x : Statement) → AsBody x → AsText x
 unfolding AsText
-of_body x b = (Some b.0, b.1, sym b.2 ∙ sym (append-nil (body_tokens b.0)), qualified b.0 b.3)
+of_body x b = (Some b.0, b.1, sym b.2 ∙ sym (append-nil (body_tokens b.0)), qualified b.0 b.3, b.4)
 
 pub as_text : (x : Statement) → is_grammatical x ≡ true → AsText x
 unfolding AsText
-as_text statement.Empty h = (None, refl, refl, tt)
+as_text statement.Empty h = (None, refl, refl, tt, omega arith)
 as_text (statement.Set name value) h = of_body _ (as_set name value h)
 as_text (statement.Select table all cond order limit offset) h = of_body _ (as_select table all cond order limit offset h)
 as_text (statement.Insert table columns rows) h = of_body _ (as_insert table columns rows h)
@@ -260,6 +264,11 @@ unfolding AsText
 tokens_spell x h =
     let b = as_text x h.grammatical in
     record { by = record { body = b.0; semicolon = false }; derives = b.2; is = sym b.1; qualified = b.3; gapless = h.gapless; settable = h.settable }
+
+-- its canonical text opens no more at once than its nodes stand deep
+pub spelled_shallow : (x : Statement) (h : IsStatement x) → text_open (tokens_spell x h).by ≤ statement_depth x
+unfolding AsText tokens_spell
+spelled_shallow x h = (as_text x h.grammatical).4
 
 pub text_spells : (x : Statement) → IsStatement x → TextSpells (canon x) x
 text_spells x h =

@@ -189,7 +189,7 @@ body_tree (update table pairs cond) = statement.Update table.name (map pair_tree
 body_tree (delete table cond) = statement.Delete table.name (option_map cond_tree cond)
 body_tree (set name to value) = statement.Set name.name (setting_operand value)
 
-abbrev option_qualifiers : Option Cond → List (List ℕ)
+abbrev pub option_qualifiers : Option Cond → List (List ℕ)
 option_qualifiers cond = elim cond [ None ↦ [] | Some c ↦ cond_qualifiers c ]
 
 -- the names that stand before columns

@@ -6,4 +6,5 @@ pub mod Shapes
 pub mod Canonical
 pub mod Writing
 pub mod WellFormed
+pub mod Depths
 pub mod Laws

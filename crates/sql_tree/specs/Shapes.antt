@@ -105,11 +105,11 @@ printed (statement.Update table sets cond) = t.Word word.Update ∷ (quoted tabl
 printed (statement.Delete table cond) = t.Word word.Delete ∷ t.Word word.From ∷ (quoted table ++ where_shape cond)
 
 -- how deep the nodes And, Or and Not stand
-abbrev most : List ℕ → ℕ
+abbrev pub most : List ℕ → ℕ
 most [] = 0
 most (a ∷ more) = max a (most more)
 
-abbrev depth_step : Cond-F ℕ → ℕ
+abbrev pub depth_step : Cond-F ℕ → ℕ
 depth_step (Cond-F.And all) = most all + 1
 depth_step (Cond-F.Or all) = most all + 1
 depth_step (Cond-F.Not a) = a + 1

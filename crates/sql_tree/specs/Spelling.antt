@@ -23,7 +23,7 @@ operand_parameters (operand.Number n) = []
 operand_parameters operand.NullValue = []
 operand_parameters (operand.Parameter n) = n ∷ []
 
-abbrev cond_step : Cond-F (List ℕ) → List ℕ
+abbrev pub cond_step : Cond-F (List ℕ) → List ℕ
 cond_step (Cond-F.And all) = flat_map (λ x. x) all
 cond_step (Cond-F.Or all) = flat_map (λ x. x) all
 cond_step (Cond-F.Not a) = a
@@ -34,7 +34,7 @@ cond_step (Cond-F.Null column) = []
 abbrev pub cond_parameters : trees.Cond → List ℕ
 cond_parameters = fold-Cond (List ℕ) cond_step
 
-abbrev option_parameters : Option trees.Cond → List ℕ
+abbrev pub option_parameters : Option trees.Cond → List ℕ
 option_parameters cond = elim cond [ None ↦ [] | Some c ↦ cond_parameters c ]
 
 abbrev pub parameters : Statement → List ℕ

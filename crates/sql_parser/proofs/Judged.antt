@@ -12,9 +12,6 @@ use Rattle.sql_tokens.specs.declared.keyword.Keyword.TheVariants as word
 use Rattle.sql_tokens.specs.declared.token.Token.{Token}
 use Rattle.sql_tokens.specs.declared.token.Token.TheVariants as t
 use Rattle.sql_tokens.specs.declared.token.Placed.{Placed}
-use Rattle.sql_tokens.specs.Tokens.{IsToken, IsPiece}
-use Rattle.sql_tokens.specs.Lexing.{placed, Lexes}
-use Rattle.sql_tokens.specs.Lexing as lexing
 use Rattle.sql_tree.specs.declared.condition.Cond.TheVariants as tree
 use Rattle.sql_tree.specs.declared.statement.Statement.{Statement}
 use Rattle.sql_tree.specs.declared.statement.Statement.TheVariants as statement
@@ -24,7 +21,6 @@ use Rattle.sql_tree.specs.Grammar.{Body, body_qualifiers, body_table, body_tree,
 use Rattle.sql_tree.specs.Depths.{filter_open, text_open, statement_depth}
 use Rattle.sql_tree.specs.Spelling.{Spells, IsQualified, IsGapless, IsSettable, parameters, tokens_of}
 use Rattle.sql_parser.specs.declared.made.Reading.{Reading}
-use Rattle.sql_parser.specs.Cursor.{AreSmall}
 use Rattle.sql_parser.specs.Judging.{agree, qualifiers_agree, WasRead, TokensSpell, TokensFail}
 use Rattle.sql_parser.specs.Made.{kept, reading, whole_reading}
 use Rattle.sql_parser.specs.Outcome.{Begins, IsFault, place_after, is_shallow}
@@ -35,25 +31,6 @@ use Rattle.sql_parser.specs.Reads.{Reads}
 use Rattle.sql_parser.proofs.Dots.{text_dots}
 use Rattle.sql_parser.proofs.Numbers.{text_numbers}
 use Rattle.sql_parser.proofs.Wholes.{Stops, one_derivation, derives, left_over, refused}
-
--- ---- small numbers
-
-token_small : (piece rest : List ℕ) (x : Token) (more : List Token) → IsToken piece x rest → AreSmall more → AreSmall (x ∷ more)
-token_small piece rest (t.Word w) more h p = p
-token_small piece rest (t.Name n q) more h p = p
-token_small piece rest (t.Number n) more h p = (h.1, p)
-token_small piece rest (t.Text s) more h p = p
-token_small piece rest (t.Parameter n) more h p = p
-token_small piece rest (t.Sign s) more h p = p
-
-piece_small : (at : ℕ) (bytes rest : List ℕ) (what : Option Token) (more : List Placed) → IsPiece bytes what rest → AreSmall (tokens_of more) → AreSmall (tokens_of (placed at what more))
-piece_small at bytes rest None more h p = p
-piece_small at bytes rest (Some x) more h p = token_small bytes rest x (tokens_of more) h p
-
-pub lexed_small : (at : ℕ) (text : List ℕ) (tokens : List Placed) (bad : Option ℕ) → Lexes at text tokens bad → AreSmall (tokens_of tokens)
-lexed_small at text tokens bad (lexing.end a) = tt
-lexed_small at text tokens bad (lexing.piece a bytes rest what more f is l) = piece_small a bytes rest what more is (lexed_small (a + length bytes) rest more f l)
-lexed_small at text tokens bad (lexing.fault a c rest none) = tt
 
 -- ---- the names before columns
 

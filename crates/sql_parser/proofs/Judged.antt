@@ -1,11 +1,12 @@
 -- What becomes of the tokens that were read.
-use Rattle.std.proofs.Common.{◌≡◌, ℕ, zero, suc, ◌+◌, ◌-◌, ◌≤◌, ◌<◌, Bool, true, false, List, [], ◌∷◌, ◌++◌, length, map, take, drop, append-nil, refl, sym, ap, ◌∙◌, subst, arith, ◌⊎◌, inl, inr}
+use Rattle.std.proofs.Common.{◌≡◌, ℕ, zero, suc, ◌+◌, ◌-◌, ◌≤◌, ◌<◌, Bool, true, false, List, [], ◌∷◌, ◌++◌, length, length-append, map, take, drop, append-nil, refl, sym, ap, ◌∙◌, subst, arith, ◌⊎◌, inl, inr}
 use Rattle.std.specs.Prelude.{◌&&◌, ◌||◌, ◌^◌, ◌↔◌, not, nat_eq, nat_le, nat_lt, codes, Contains, Option, Some, None, option_map, Result, Ok, Err, if◌then◌else◌}
 use Rattle.std.specs.List.{list_all, AllByRecursion}
 use Rattle.std.specs.Cmp.Lexicographic.{pointwise, same_text}
 use Rattle.std.proofs.lemmas.Cmp.{nat_list_eq_equiv}
 use Rattle.std.proofs.lemmas.Bool.{le-leb, leb-true, ltb-true, ltb-false, eq-eqb}
-use Rattle.std.proofs.lemmas.List.{take-append-drop, take-map}
+use Rattle.std.proofs.lemmas.List.{take-append-drop, length-map}
+use Rattle.std.proofs.Math.Seq.{take-append_seam, drop-append_seam}
 use Rattle.std.proofs.lemmas.List.Sums.{AllPass-from_list_all}
 use Rattle.std.proofs.lemmas.List.Elements.{All-contains, Contains-append_right}
 use Rattle.sql_tokens.specs.declared.keyword.Keyword.TheVariants as word
@@ -21,9 +22,15 @@ use Rattle.sql_tree.specs.Grammar.{Body, body_qualifiers, body_table, body_tree,
 use Rattle.sql_tree.specs.Depths.{filter_open, text_open, statement_depth}
 use Rattle.sql_tree.specs.Spelling.{Spells, IsQualified, IsGapless, IsSettable, parameters, tokens_of}
 use Rattle.sql_parser.specs.declared.made.Reading.{Reading}
-use Rattle.sql_parser.specs.Judging.{agree, qualifiers_agree, WasRead, TokensSpell, TokensFail}
+use Rattle.sql_parser.specs.Judging.{agree, qualifiers_agree, WasRead, TokensSpell, TokensFail, TokensGive}
 use Rattle.sql_parser.specs.Made.{kept, reading, whole_reading}
-use Rattle.sql_parser.specs.Outcome.{Begins, IsFault, place_after, is_shallow}
+use Rattle.sql_tokens.specs.Lexing.{Lexes}
+use Rattle.sql_parser.specs.declared.refusal.SqlKind.{SqlKind}
+use Rattle.sql_parser.specs.declared.refusal.SqlKind.TheVariants as kind
+use Rattle.sql_parser.specs.declared.refusal.ParseFault.{ParseFault}
+use Rattle.sql_parser.specs.declared.refusal.ParseFault.TheVariants as fault
+use Rattle.sql_parser.specs.Outcome.{Begins, IsFault, place_after, is_shallow, Outcome, IsOutcome, IsTold, Tells}
+use Rattle.sql_parser.proofs.Outcomes.{one_outcome}
 use Rattle.sql_parser.specs.Outside.{is_outside, is_settable, sets_other, is_set, set_place, outside_place}
 use Rattle.sql_parser.specs.Passes.{before_dots, numbers}
 use Rattle.sql_parser.specs.Productions.{whole}
@@ -144,3 +151,156 @@ text_deepest (Some (grammar.insert table names rows)) semicolon = refl
 text_deepest (Some (grammar.update table pairs cond)) semicolon = refl
 text_deepest (Some (grammar.delete table cond)) semicolon = refl
 text_deepest (Some (grammar.set name to value)) semicolon = refl
+
+-- ---- a text that was read
+
+all_fault : (placed : List Placed) (x : Text) → tokens_of placed ≡ text_tokens x → IsFault placed []
+all_fault placed x e = record { front = placed; cut = sym (append-nil placed); begins = ([], x, append-nil (tokens_of placed) ∙ e); stops = λ p more is b. cc }
+
+not_below : (a b : ℕ) → b < a → nat_le a b ≡ false
+not_below a b h = by (nat_le a b) refl
+  where
+    by : (c : Bool) → nat_le a b ≡ c → nat_le a b ≡ false
+    by true e = absurd (let k = leb-true a b e in omega arith)
+    by false e = e
+
+and_left : (a b : Bool) → a ≡ false → (a && b) ≡ false
+and_left a b e = ap (λ c. c && b) e
+
+and_right : (a b : Bool) → b ≡ false → (a && b) ≡ false
+and_right true b e = e
+and_right false b e = refl
+
+module _ (placed : List Placed) (made : Reading) (w : WasRead placed made) where
+  abbrev x : Text
+  x = w.text
+
+  abbrev ts : List Token
+  ts = tokens_of placed
+
+  numbers_are : numbers ts ≡ parameters (text_tree x)
+  numbers_are = ap numbers w.derives ∙ text_numbers x
+
+  pub spelled : outside_place placed ≡ None → qualifiers_agree made.statement ts ≡ true → IsGapless (numbers ts) → Spells ts (text_tree x)
+  spelled inside agrees gapless = record {
+    by = x;
+    derives = w.derives;
+    is = refl;
+    qualified = text_qualified x.body x.semicolon ts w.derives (subst (λ (r : Reading). qualifiers_agree r.statement ts ≡ true) w.is agrees);
+    gapless = subst IsGapless numbers_are gapless;
+    settable = text_settable placed x.body x.semicolon w.derives inside;
+  }
+
+  unspelled : ((qualifiers_agree made.statement ts ≡ true) × IsGapless (numbers ts) → ⊥) → (tree : Statement) → Spells ts tree → ⊥
+  unspelled none tree s =
+      let same = one_derivation s.by x (sym s.derives ∙ w.derives) in
+      let agrees = text_agrees x.body x.semicolon ts w.derives (subst (λ (y : Text). IsQualified y.body) same s.qualified) in
+      let gapless = subst (λ (y : Statement). IsGapless (parameters y)) (s.is ∙ ap text_tree same) s.gapless in
+      none (subst (λ (r : Reading). qualifiers_agree r.statement ts ≡ true) (sym w.is) agrees, subst IsGapless (sym numbers_are) gapless)
+
+  pub side_fails : ((qualifiers_agree made.statement ts ≡ true) × IsGapless (numbers ts) → ⊥) → (end : ℕ) → TokensFail placed None end end
+  side_fails none end = record { rest = []; fault = all_fault placed x w.derives; at = refl; none = λ e f. unspelled none }
+
+  open_is : made.deepest ≡ text_open x
+  open_is = ap (λ (r : Reading). r.deepest) w.is ∙ text_deepest x.body x.semicolon
+
+  statement_is : made.deepest ≤ 128 → made.statement ≡ text_tree x
+  statement_is h = ap (λ (r : Reading). r.statement) w.is ∙ text_kept x.body x.semicolon (subst (λ (r : Reading). r.deepest ≤ 128) w.is h)
+
+  pub too_open : 128 < made.deepest → is_shallow x (text_tree x) ≡ false
+  too_open h = and_left (nat_le (text_open x) 128) (nat_le (statement_depth (text_tree x)) 64) (not_below (text_open x) 128 (subst (λ n. 128 < n) open_is h))
+
+  pub too_deep : made.deepest ≤ 128 → nat_lt 64 (statement_depth made.statement) ≡ true → is_shallow x (text_tree x) ≡ false
+  too_deep h e =
+      let deep = ltb-true 64 (statement_depth made.statement) e in
+      and_right (nat_le (text_open x) 128) (nat_le (statement_depth (text_tree x)) 64) (not_below (statement_depth (text_tree x)) 64 (subst (λ (y : Statement). 64 < statement_depth y) (statement_is h) deep))
+
+  pub found : outside_place placed ≡ None → qualifiers_agree made.statement ts ≡ true → IsGapless (numbers ts) → made.deepest ≤ 128 → nat_lt 64 (statement_depth made.statement) ≡ false → TokensSpell ts true made.statement
+  unfolding spelled
+  found inside agrees gapless h e =
+      let flat = ltb-false 64 (statement_depth made.statement) e in
+      let same = statement_is h in
+      let low = le-leb (text_open x) 128 (subst (λ n. n ≤ 128) open_is h) in
+      let thin = le-leb (statement_depth (text_tree x)) 64 (subst (λ (y : Statement). statement_depth y ≤ 64) same flat) in
+      subst (TokensSpell ts true) (sym same) (record { spells = spelled inside agrees gapless; depth = λ i. low i && thin i })
+
+  pub deep : outside_place placed ≡ None → qualifiers_agree made.statement ts ≡ true → IsGapless (numbers ts) → is_shallow x (text_tree x) ≡ false → (tree : Statement) × TokensSpell ts false tree
+  unfolding spelled
+  deep inside agrees gapless e = (text_tree x, record { spells = spelled inside agrees gapless; depth = e })
+
+-- ---- a text that stops being one
+
+tokens_drop : (k : ℕ) (xs : List Placed) → tokens_of (drop k xs) ≡ drop k (tokens_of xs)
+tokens_drop zero xs = refl
+tokens_drop (suc k) [] = refl
+tokens_drop (suc k) (x ∷ xs) = tokens_drop k xs
+
+tokens_take : (k : ℕ) (xs : List Placed) → tokens_of (take k xs) ≡ take k (tokens_of xs)
+tokens_take zero xs = refl
+tokens_take (suc k) [] = refl
+tokens_take (suc k) (x ∷ xs) = ap (λ w. x.token ∷ w) (tokens_take k xs)
+
+module _ (placed : List Placed) (r : List Token) (s : Stops (tokens_of placed) r) where
+  abbrev count : ℕ
+  count = length placed - length r
+
+  lengths : length placed ≡ length s.front + length r
+  lengths = sym (length-map placed (λ (p : Placed). p.token)) ∙ ap length s.cut ∙ length-append s.front r
+
+  pub fits : length r ≤ length placed
+  fits = let e = lengths in omega arith
+
+  is_front : length s.front ≡ count
+  is_front = let e = lengths in omega arith
+
+  front_is : tokens_of (take count placed) ≡ s.front
+  front_is = tokens_take count placed ∙ (λ i. take (sym is_front i) (s.cut i)) ∙ take-append_seam s.front r
+
+  rest_is : tokens_of (drop count placed) ≡ r
+  rest_is = tokens_drop count placed ∙ (λ i. drop (sym is_front i) (s.cut i)) ∙ drop-append_seam s.front r
+
+  pub stopped : (bad : Option ℕ) (end place : ℕ) → place ≡ place_after (drop count placed) bad end → TokensFail placed bad end place
+  stopped bad end place at = record {
+    rest = drop count placed;
+    fault = record {
+      front = take count placed;
+      cut = sym (take-append-drop count placed);
+      begins = subst Begins (sym front_is) s.begins;
+      stops = λ p more is b.
+          let first : r ≡ p.token ∷ tokens_of more = sym rest_is ∙ ap tokens_of is in
+          s.stops p.token (tokens_of more) first (subst (λ f. Begins (f ++ p.token ∷ [])) front_is b);
+    };
+    at = at;
+    none = λ is f tree u. s.none (sym rest_is ∙ ap tokens_of is) u.by u.derives;
+  }
+
+pub bad_after : (placed : List Placed) (x : Text) (bad end : ℕ) → tokens_of placed ≡ text_tokens x → TokensFail placed (Some bad) end bad
+bad_after placed x bad end e = record { rest = []; fault = all_fault placed x e; at = refl; none = λ is f. cc }
+
+-- ---- the outcome of the whole text
+
+told_refusal : (text : List ℕ) (limit : ℕ) (placed : List Placed) (bad : Option ℕ) → Lexes 0 text placed bad → length text ≤ limit → outside_place placed ≡ None → (k : SqlKind) (place : ℕ)
+    → TokensGive placed bad (length text) (Err (fault.Refused (record { place = place; kind = k }))) → IsOutcome text limit (Err (record { place = place; kind = k }))
+told_refusal text limit placed bad l fits inside kind.TooLong place h = absurd h
+told_refusal text limit placed bad l fits inside kind.OutsideProfile place h = absurd h
+told_refusal text limit placed bad l fits inside kind.Syntax place h =
+    (fits, record { placed = placed; bad = bad; lexes = l; inside = inside; rest = h.rest; fault = h.fault; at = h.at; none = h.none })
+told_refusal text limit placed bad l fits inside kind.TooDeep place h =
+    let s = h.2.1 in
+    (fits, h.1, (h.2.0, record { placed = placed; lexes = subst (Lexes 0 text placed) h.0 l; spells = s.spells; depth = s.depth }))
+
+pub told : (text : List ℕ) (limit : ℕ) (placed : List Placed) (bad : Option ℕ) → Lexes 0 text placed bad → length text ≤ limit → outside_place placed ≡ None → (result : Result Statement ParseFault)
+    → TokensGive placed bad (length text) result → IsTold text limit result
+told text limit placed bad l fits inside (Ok tree) h = (fits, record { placed = placed; lexes = subst (Lexes 0 text placed) h.0 l; spells = h.1.spells; depth = h.1.depth })
+told text limit placed bad l fits inside (Err fault.NoMemory) h = tt
+told text limit placed bad l fits inside (Err (fault.Refused r)) h = told_refusal text limit placed bad l fits inside r.kind r.place h
+
+pub told_outside : (text : List ℕ) (limit : ℕ) (placed : List Placed) (bad : Option ℕ) (place : ℕ) → Lexes 0 text placed bad → length text ≤ limit → outside_place placed ≡ Some place
+    → IsOutcome text limit (Err (record { place = place; kind = kind.OutsideProfile }))
+told_outside text limit placed bad place l fits e = (fits, record { placed = placed; bad = bad; lexes = l; outside = e })
+
+-- an answer that tells an outcome tells the only one
+pub tells : (text : List ℕ) (limit : ℕ) (result : Result Statement ParseFault) → IsTold text limit result → (o : Outcome) → IsOutcome text limit o → Tells result o
+tells text limit (Ok tree) h o k = one_outcome text limit o (Ok tree) k h
+tells text limit (Err (fault.Refused r)) h o k = one_outcome text limit o (Err r) k h
+tells text limit (Err fault.NoMemory) h o k = tt

@@ -1,6 +1,6 @@
 -- What becomes of the tokens that were read.
 use Rattle.std.proofs.Common.{◌≡◌, ℕ, zero, suc, ◌+◌, ◌-◌, ◌≤◌, ◌<◌, Bool, true, false, List, [], ◌∷◌, ◌++◌, length, length-append, map, take, drop, append-nil, refl, sym, ap, ◌∙◌, subst, arith, ◌⊎◌, inl, inr}
-use Rattle.std.specs.Prelude.{◌&&◌, ◌||◌, ◌^◌, ◌↔◌, not, nat_eq, nat_le, nat_lt, codes, Contains, Option, Some, None, option_map, Result, Ok, Err, if◌then◌else◌}
+use Rattle.std.specs.Prelude.{◌&&◌, ◌||◌, ◌^◌, ◌↔◌, not, nat_eq, nat_le, nat_lt, codes, Contains, IsTrue, IsNone, MatchOption, Option, Some, None, option_map, Result, Ok, Err, if◌then◌else◌}
 use Rattle.std.specs.List.{list_all, AllByRecursion}
 use Rattle.std.specs.Cmp.Lexicographic.{pointwise, same_text}
 use Rattle.std.proofs.lemmas.Cmp.{nat_list_eq_equiv}
@@ -22,7 +22,8 @@ use Rattle.sql_tree.specs.Grammar.{Body, body_qualifiers, body_table, body_tree,
 use Rattle.sql_tree.specs.Depths.{filter_open, text_open, statement_depth}
 use Rattle.sql_tree.specs.Spelling.{Spells, IsQualified, IsGapless, IsSettable, parameters, tokens_of}
 use Rattle.sql_parser.specs.declared.made.Reading.{Reading}
-use Rattle.sql_parser.specs.Judging.{agree, qualifiers_agree, WasRead, TokensSpell, TokensFail, TokensGive}
+use Rattle.sql_parser.specs.Judging.{agree, qualifiers_agree, WasRead, TokensSpell, TokensFail, TokensGive, is_deep, refusal_of, refusal_after}
+use Rattle.sql_parser.specs.Judging as judging
 use Rattle.sql_parser.specs.Made.{kept, reading, whole_reading}
 use Rattle.sql_tokens.specs.Lexing.{Lexes}
 use Rattle.sql_parser.specs.declared.refusal.SqlKind.{SqlKind}
@@ -30,11 +31,13 @@ use Rattle.sql_parser.specs.declared.refusal.SqlKind.TheVariants as kind
 use Rattle.sql_parser.specs.declared.refusal.ParseFault.{ParseFault}
 use Rattle.sql_parser.specs.declared.refusal.ParseFault.TheVariants as fault
 use Rattle.sql_parser.specs.Outcome.{Begins, IsFault, place_after, is_shallow, Outcome, IsOutcome, IsTold, Tells}
+use Rattle.sql_parser.specs.Cursor.{AreSmall}
+use Rattle.sql_parser.proofs.Small.{lexed_small}
 use Rattle.sql_parser.proofs.Outcomes.{one_outcome}
 use Rattle.sql_parser.specs.Outside.{is_outside, is_settable, sets_other, is_set, set_place, outside_place}
 use Rattle.sql_parser.specs.Passes.{before_dots, numbers}
 use Rattle.sql_parser.specs.Productions.{whole}
-use Rattle.sql_parser.specs.Reads.{Reads}
+use Rattle.sql_parser.specs.Reads.{Reads, Gives}
 use Rattle.sql_parser.proofs.Dots.{text_dots}
 use Rattle.sql_parser.proofs.Numbers.{text_numbers}
 use Rattle.sql_parser.proofs.Wholes.{Stops, one_derivation, derives, left_over, refused}
@@ -228,6 +231,38 @@ module _ (placed : List Placed) (made : Reading) (w : WasRead placed made) where
   unfolding spelled
   deep inside agrees gapless e = (text_tree x, record { spells = spelled inside agrees gapless; depth = e })
 
+  depth_cases : {R : Type 0} (a b : Bool) → (a || b) ≡ true → (a ≡ true → R) → (a ≡ false → b ≡ true → R) → R
+  depth_cases true b e f g = f refl
+  depth_cases false b e f g = g refl e
+
+  not_deep : (a b : Bool) → (a || b) ≡ false → (a ≡ false) × (b ≡ false)
+  not_deep true b e = cc
+  not_deep false b e = (refl, e)
+
+  is_too_deep : is_deep made ≡ true → is_shallow x (text_tree x) ≡ false
+  is_too_deep e = depth_cases (nat_lt 128 made.deepest) (nat_lt 64 (statement_depth made.statement)) e
+      (λ f. too_open (ltb-true 128 made.deepest f)) (λ f g. too_deep (ltb-false 128 made.deepest f) g)
+
+  judged_by : (end : ℕ) (b : Bool) → is_deep made ≡ b → outside_place placed ≡ None → qualifiers_agree made.statement ts ≡ true → IsGapless (numbers ts) → TokensGive placed None end (judging.judged (refusal_of true b) end made.statement)
+  judged_by end true e inside agrees gapless = (refl, refl, deep inside agrees gapless (is_too_deep e))
+  judged_by end false e inside agrees gapless =
+      let n = not_deep (nat_lt 128 made.deepest) (nat_lt 64 (statement_depth made.statement)) e in
+      (refl, found inside agrees gapless (ltb-false 128 made.deepest n.0) n.1)
+
+  not_true : false ≡ true → ⊥
+  not_true e = cc
+
+  judged_when : (end : ℕ) (holds : Bool) → outside_place placed ≡ None → IsTrue holds ↔ ((qualifiers_agree made.statement ts ≡ true) × IsGapless (numbers ts))
+      → TokensGive placed None end (judging.judged (refusal_of holds (is_deep made)) end made.statement)
+  judged_when end true inside both = let h = both.0 refl in judged_by end (is_deep made) refl inside h.0 h.1
+  judged_when end false inside both = side_fails (λ h. not_true (both.1 h)) end
+
+  pub judged : (end : ℕ) (holds deep : Bool) (tree : Statement) (k : Option SqlKind) (result : Result Statement ParseFault) → outside_place placed ≡ None
+      → IsTrue holds ↔ ((qualifiers_agree made.statement ts ≡ true) × IsGapless (numbers ts)) → deep ≡ is_deep made → k ≡ refusal_of holds deep → tree ≡ made.statement → result ≡ judging.judged k end tree
+      → TokensGive placed None end result
+  judged end holds deep tree k result inside both d e f is =
+      subst (TokensGive placed None end) (sym (is ∙ (λ i. judging.judged (e i) end (f i)) ∙ ap (λ b. judging.judged (refusal_of holds b) end made.statement) d)) (judged_when end holds inside both)
+
 -- ---- a text that stops being one
 
 tokens_drop : (k : ℕ) (xs : List Placed) → tokens_of (drop k xs) ≡ drop k (tokens_of xs)
@@ -277,6 +312,60 @@ module _ (placed : List Placed) (r : List Token) (s : Stops (tokens_of placed) r
 pub bad_after : (placed : List Placed) (x : Text) (bad end : ℕ) → tokens_of placed ≡ text_tokens x → TokensFail placed (Some bad) end bad
 bad_after placed x bad end e = record { rest = []; fault = all_fault placed x e; at = refl; none = λ is f. cc }
 
+-- ---- what reading left
+
+module _ (placed : List Placed) (old new : List Token) (made : Reading) (start : old ≡ tokens_of placed) (g : Gives whole_reading whole old (Ok made) new) where
+  reads_from : Reads whole (tokens_of placed) (Ok (g.0, new))
+  reads_from = subst (λ ts. Reads whole ts (Ok (g.0, new))) start g.2
+
+  over : (t : Token) (r : List Token) → new ≡ t ∷ r → Stops (tokens_of placed) (t ∷ r)
+  over t r e = left_over (tokens_of placed) g.0 t r (subst (λ (w : List Token). Reads whole (tokens_of placed) (Ok (g.0, w))) e reads_from)
+
+  fits_by : (w : List Token) → new ≡ w → length w ≤ length placed
+  fits_by [] e = omega arith
+  fits_by (t ∷ r) e = fits placed (t ∷ r) (over t r e)
+
+  pub ok_fits : (left : ℕ) → left ≡ length new → left ≤ length placed
+  ok_fits left l = subst (λ n. n ≤ length placed) (sym l) (fits_by new refl)
+
+  derived : new ≡ [] → tokens_of placed ≡ text_tokens g.0
+  derived e = derives (tokens_of placed) g.0 (subst (λ (w : List Token). Reads whole (tokens_of placed) (Ok (g.0, w))) e reads_from)
+
+  read_all : new ≡ [] → WasRead placed made
+  read_all e = record { text = g.0; derives = derived e; is = g.1 }
+
+  read_by : (bad : Option ℕ) (end : ℕ) (w : List Token) → new ≡ w → IsNone (refusal_after placed (length w) bad end) → WasRead placed made
+  read_by bad end [] e h = read_all e
+  read_by bad end (t ∷ r) e h = cc
+
+  pub ok_read : (bad : Option ℕ) (end left : ℕ) (refusal : Option ParseFault) → left ≡ length new → refusal ≡ refusal_after placed left bad end → IsNone refusal → WasRead placed made
+  ok_read bad end left refusal l e h = read_by bad end new refl (subst IsNone (e ∙ ap (λ n. refusal_after placed n bad end) l) h)
+
+  abbrev Ends : Option ℕ → ℕ → Result Statement ParseFault → Option ParseFault → Type 0
+  Ends bad end result refusal = MatchOption refusal (TokensGive placed None end result) (λ f. result ≡ Err f)
+
+  gives_by : (bad : Option ℕ) (end : ℕ) (result : Result Statement ParseFault) (w : List Token) → new ≡ w → Ends bad end result (refusal_after placed (length w) bad end) → TokensGive placed bad end result
+  gives_by None end result [] e h = h
+  gives_by (Some bad) end result [] e h = subst (TokensGive placed (Some bad) end) (sym h) (bad_after placed g.0 bad end (derived e))
+  gives_by bad end result (t ∷ r) e h = subst (TokensGive placed bad end) (sym h) (stopped placed (t ∷ r) (over t r e) bad end _ refl)
+
+  pub ok_gives : (bad : Option ℕ) (end left : ℕ) (refusal : Option ParseFault) (result : Result Statement ParseFault) → left ≡ length new → refusal ≡ refusal_after placed left bad end → Ends bad end result refusal
+      → TokensGive placed bad end result
+  ok_gives bad end left refusal result l e h = gives_by bad end result new refl (subst (Ends bad end result) (e ∙ ap (λ n. refusal_after placed n bad end) l) h)
+
+module _ (placed : List Placed) (old new : List Token) (start : old ≡ tokens_of placed) (g : Reads whole old (Err new)) where
+  stuck : Stops (tokens_of placed) new
+  stuck = refused (tokens_of placed) new (subst (λ ts. Reads whole ts (Err new)) start g)
+
+  pub err_fits : (left : ℕ) → left ≡ length new → left ≤ length placed
+  err_fits left l = subst (λ n. n ≤ length placed) (sym l) (fits placed new stuck)
+
+  pub err_gives : (bad : Option ℕ) (end left : ℕ) (f : ParseFault) → left ≡ length new → f ≡ fault.Refused (record { place = place_after (drop (length placed - left) placed) bad end; kind = kind.Syntax })
+      → TokensGive placed bad end (Err f)
+  err_gives bad end left f l e =
+      subst (λ x. TokensGive placed bad end (Err x)) (sym (e ∙ ap (λ n. fault.Refused (record { place = place_after (drop (length placed - n) placed) bad end; kind = kind.Syntax })) l))
+      (stopped placed new stuck bad end _ refl)
+
 -- ---- the outcome of the whole text
 
 told_refusal : (text : List ℕ) (limit : ℕ) (placed : List Placed) (bad : Option ℕ) → Lexes 0 text placed bad → length text ≤ limit → outside_place placed ≡ None → (k : SqlKind) (place : ℕ)
@@ -304,3 +393,16 @@ pub tells : (text : List ℕ) (limit : ℕ) (result : Result Statement ParseFaul
 tells text limit (Ok tree) h o k = one_outcome text limit o (Ok tree) k h
 tells text limit (Err (fault.Refused r)) h o k = one_outcome text limit o (Err r) k h
 tells text limit (Err fault.NoMemory) h o k = tt
+
+pub told_long : (text : List ℕ) (limit : ℕ) (f : ParseFault) → limit < length text → f ≡ fault.Refused (record { place = limit; kind = kind.TooLong }) → IsTold text limit (Err f)
+told_long text limit f h e = subst (λ x. IsTold text limit (Err x)) (sym e) (h, refl)
+
+module _ (text : List ℕ) (limit : ℕ) (placed shown : List Placed) (bad : Option ℕ) (l : Lexes 0 text placed bad) (same : shown ≡ placed) where
+  pub shown_small : AreSmall (tokens_of shown)
+  shown_small = subst (λ w. AreSmall (tokens_of w)) (sym same) (lexed_small l)
+
+  pub told_other : (place : ℕ) (f : ParseFault) → length text ≤ limit → outside_place shown ≡ Some place → f ≡ fault.Refused (record { place = place; kind = kind.OutsideProfile }) → IsTold text limit (Err f)
+  told_other place f low e is = subst (λ x. IsTold text limit (Err x)) (sym is) (told_outside text limit placed bad place l low (sym (ap outside_place same) ∙ e))
+
+  pub told_read : length text ≤ limit → outside_place shown ≡ None → (result : Result Statement ParseFault) → TokensGive shown bad (length text) result → IsTold text limit result
+  told_read low e result h = told text limit placed bad l low (sym (ap outside_place same) ∙ e) result (subst (λ w. TokensGive w bad (length text) result) same h)

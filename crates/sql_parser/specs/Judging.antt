@@ -1,14 +1,16 @@
 -- What becomes of the tokens of a text whose first tokens begin a statement of the profile.
-use Rattle.std.specs.Prelude.{ℕ, ◌≡◌, nat_eq, Bool, true, false, List, [], Option, Some, None, Result, Ok, Err}
+use Rattle.std.specs.Prelude.{ℕ, zero, suc, ◌-◌, length, drop, ◌≡◌, nat_eq, nat_lt, ◌||◌, Bool, true, false, List, [], Option, Some, None, Result, Ok, Err}
 use Rattle.std.specs.List.{list_all}
 use Rattle.std.specs.Cmp.Lexicographic.{pointwise}
 use Rattle.sql_tokens.specs.declared.token.Token.{Token}
 use Rattle.sql_tokens.specs.declared.token.Placed.{Placed}
 use Rattle.sql_tree.specs.declared.statement.Statement.{Statement}
 use Rattle.sql_tree.specs.declared.statement.Statement.TheVariants as statement
+use Rattle.sql_tree.specs.Depths.{statement_depth}
 use Rattle.sql_tree.specs.Grammar.{Text, text_tokens}
 use Rattle.sql_tree.specs.Spelling.{Spells, tokens_of}
 use Rattle.sql_parser.specs.declared.made.Reading.{Reading}
+use Rattle.sql_parser.specs.declared.refusal.SqlKind.{SqlKind}
 use Rattle.sql_parser.specs.declared.refusal.SqlKind.TheVariants as kind
 use Rattle.sql_parser.specs.declared.refusal.ParseFault.{ParseFault}
 use Rattle.sql_parser.specs.declared.refusal.ParseFault.TheVariants as fault
@@ -26,6 +28,26 @@ qualifiers_agree (statement.Select table items cond order limit offset) ts = agr
 qualifiers_agree (statement.Update table sets cond) ts = agree table ts
 qualifiers_agree (statement.Delete table cond) ts = agree table ts
 qualifiers_agree _ ts = true
+
+-- too much is open at once, or nodes stand too deep
+abbrev pub is_deep : Reading → Bool
+is_deep r = nat_lt 128 r.deepest || nat_lt 64 (statement_depth r.statement)
+
+-- why a statement that was read is refused, by whether the side conditions hold
+abbrev pub refusal_of : (holds deep : Bool) → Option SqlKind
+refusal_of false deep = Some kind.Syntax
+refusal_of true true = Some kind.TooDeep
+refusal_of true false = None
+
+abbrev pub judged : Option SqlKind → ℕ → Statement → Result Statement ParseFault
+judged None end tree = Ok tree
+judged (Some k) end tree = Err (fault.Refused (record { place = end; kind = k }))
+
+-- the refusal where tokens are left over, or bytes behind them that are no token
+abbrev pub refusal_after : List Placed → ℕ → Option ℕ → ℕ → Option ParseFault
+refusal_after placed zero None end = None
+refusal_after placed zero (Some bad) end = Some (fault.Refused (record { place = bad; kind = kind.Syntax }))
+refusal_after placed (suc left) bad end = Some (fault.Refused (record { place = place_after (drop (length placed - suc left) placed) bad end; kind = kind.Syntax }))
 
 -- the tokens derive a text, of which this was made
 pub record WasRead (placed : List Placed) (reading : Reading) : Type 0 where

@@ -1,3 +1,5 @@
+ghost use Rattle.std.specs.Prelude.{◌≡◌};
+
 use sql_tree::{Cond, Statement};
 
 /// A condition that was read.
@@ -25,4 +27,13 @@ pub(crate) struct Reading {
     pub(crate) statement: Statement,
     /// How many parentheses and NOTs are open at once, at most.
     pub(crate) deepest: usize,
+}
+
+impl Reading {
+    /// The statement alone.
+    pub(crate) fn into_statement(self) -> Statement
+        ensures { result ≡ self.statement }
+    {
+        self.statement
+    }
 }

@@ -42,6 +42,7 @@ FinishCaused status k k' w w' = ⊥
 abbrev pub MasterAs : Result (List ℕ) KeysStatus → Option (List ℕ) → Type 0
 MasterAs (Ok key) spelled = spelled ≡ Some key
 MasterAs (Err ends.BadMaster) spelled = spelled ≡ None
+MasterAs (Err (ends.RingRefused why)) spelled = ⊥
 MasterAs (Err status) spelled = Unit {0}
 
 -- before anything is kept or printed

@@ -6,7 +6,13 @@ mod master;
 mod opening;
 mod reading;
 mod status;
+mod top;
 mod words;
 mod work;
 
 pub use status::{KeyFile, KeysStatus, Refusal, RingTrouble};
+pub use top::keys_top;
+pub use words::{Ask, ask_of};
+
+#[cfg(test)]
+mod tests;

@@ -11,11 +11,11 @@ const NONCE: [u8; 12] = [9; 12];
 /// The ring of two clients `a` and `bc`, of which the first was rotated.
 fn ring(alloc: Global) -> Result<Ring, Fail> {
     let mut ring = Ring::new(alloc, [1; 32], [2; 32], [3; 32]);
-    for (name, byte) in [("bc", 4), ("a", 6)] {
+    for (name, byte, search) in [("bc", 4, 5), ("a", 6, 7)] {
         let who = ClientId::read(name.as_bytes()).ok().ok_or("no client")?;
         let keys = NewKeys {
             key: [byte; 32],
-            search: [byte + 1; 32],
+            search: [search; 32],
         };
         ring.add_client(&who, keys).ok().ok_or("not added")?;
     }
@@ -79,10 +79,8 @@ fn a_ring_is_kept(rt: HostRuntime) -> Result<(), Fail> {
 /// The fault of a file whose body has these bytes from a place on, in place of its own.
 fn fault(alloc: Global, place: usize, bytes: &[u8]) -> Result<Option<RingFault>, Fail> {
     let mut changed = body(alloc)?;
-    for (index, byte) in bytes.iter().enumerate() {
-        if place + index < changed.len() {
-            changed[place + index] = *byte;
-        }
+    for (old, new) in changed.iter_mut().skip(place).zip(bytes) {
+        *old = *new;
     }
     let file = file(alloc, &changed)?;
     Ok(read_ring(alloc, &TrialAead, &file, &MASTER).err())
@@ -140,16 +138,22 @@ fn a_body_ends_with_its_last_key(rt: HostRuntime) -> Result<(), Fail> {
     Ok(())
 }
 
+/// Changes the byte's last bit.
+fn flip(byte: Option<&mut u8>) {
+    if let Some(byte) = byte {
+        *byte ^= 1;
+    }
+}
+
 #[test]
 fn a_changed_file_is_not_opened(rt: HostRuntime) -> Result<(), Fail> {
     let alloc = rt.alloc();
     let mut bytes = file(alloc, &body(alloc)?)?;
-    let last = bytes.len() - 1;
-    bytes[last] ^= 1;
+    flip(bytes.last_mut());
     let found = read_ring(alloc, &TrialAead, &bytes, &MASTER).err();
     assert_eq!(rt; found, Some(RingFault::NotSealed));
-    bytes[last] ^= 1;
-    bytes[0] ^= 1;
+    flip(bytes.last_mut());
+    flip(bytes.first_mut());
     let found = read_ring(alloc, &TrialAead, &bytes, &MASTER).err();
     assert_eq!(rt; found, Some(RingFault::NotSealed));
     let found = read_ring(alloc, &TrialAead, b"AKR1", &MASTER).err();

@@ -1,0 +1,5 @@
+mod Splitting
+mod Bytes
+mod Fields
+mod Going
+mod Behind

@@ -1,0 +1,100 @@
+ghost use Rattle.std.specs.Prelude.{◌≡◌, ◌++◌, List, ℕ, [], codes, Ok, IfOk, OnOk, true, false};
+ghost use Rattle.acra_crypto.specs.Hmac.{hmac_sha256};
+ghost use Rattle.audit_chain.specs.Kinds.{is_close};
+ghost use Rattle.audit_chain.specs.Lines.{IsNote};
+ghost use Rattle.audit_chain.specs.Points.{next_number, next_mac, next_line, point_after, start, IsNext, StandsBehind};
+
+use crate::kind::NoteKind;
+use crate::line::{note_text, read_note, with_mac};
+use crate::note::Note;
+use acra_base::NoMemory;
+use acra_crypto::{HmacStream, hmac_sha256};
+use std::alloc::Global;
+use std::marker::Model;
+
+/// Where the log stands: what is needed of the lines so far to write the next one.
+#[derive(Drop)]
+pub struct Chain {
+    number: u64,
+    key: [u8; 32],
+    mac: [u8; 32],
+    ended: bool,
+}
+
+impl Model for Chain {
+    ghost use Rattle.audit_chain.specs.Points.{Point};
+
+    ghost Value = { Point };
+
+    ghost view = { λ c. record { number = c.number; key = c.key; mac = c.mac; ended = c.ended } };
+}
+
+/// A line, without its newline, and its mac.
+#[derive(Drop)]
+struct Line {
+    bytes: Vec<u8>,
+    mac: [u8; 32],
+}
+
+impl Chain {
+    /// An empty log with this key.
+    pub fn new(key: [u8; 32]) -> Chain
+        ensures value { result ≡ start key }
+        ensures stands { StandsBehind key [] result }
+    {
+        Chain {
+            number: 0,
+            key,
+            mac: [0; 32],
+            ended: false,
+        }
+    }
+
+    fn mac(&self, text: &[u8]) -> [u8; 32]
+        ensures { result ≡ hmac_sha256 self.now.key (self.now.mac ++ text.now) }
+    {
+        let mut stream = HmacStream::new(&self.key);
+        stream.update(&self.mac);
+        stream.update(text);
+        stream.finish()
+    }
+
+    fn next(&self, alloc: Global, note: &Note) -> Result<Line, NoMemory>
+        ensures bytes { IfOk result (λ line. line.bytes.items ≡ next_line self.now note.now) }
+        ensures mac { IfOk result (λ line. line.mac ≡ next_mac self.now note.now) }
+        ensures formed { OnOk result (IsNote note.now) }
+    {
+        let text = note_text(alloc, self.number.wrapping_add(1), note)?;
+        let mac = self.mac(&text);
+        let bytes = with_mac(alloc, text, &mac)?;
+        Ok(Line { bytes, mac })
+    }
+
+    fn advance(&mut self, kind: NoteKind, mac: [u8; 32])
+        ensures { self.new ≡ record { number = next_number self.old; key = hmac_sha256 self.old.key (codes "next"); mac = mac; ended = is_close kind } }
+    {
+        self.number = self.number.wrapping_add(1);
+        self.key = hmac_sha256(&self.key, b"next");
+        self.mac = mac;
+        self.ended = kind == NoteKind::Close;
+    }
+
+    /// Goes on by a line, without its newline, where it is the next one.
+    pub(crate) fn follow(&mut self, alloc: Global, line: &[u8]) -> Result<bool, NoMemory>
+        ensures yes { result ≡ Ok true → (note : Note) × IsNext self.old line.now note × (self.new ≡ point_after self.old note) }
+        ensures no { result ≡ Ok false → (note : Note) → IsNext self.old line.now note → ⊥ }
+    {
+        if self.ended {
+            return Ok(false);
+        }
+        let Some(note) = read_note(line) else {
+            return Ok(false);
+        };
+        let next = self.next(alloc, &note)?;
+        if next.bytes.as_slice() != line {
+            return Ok(false);
+        }
+        self.advance(note.kind, next.mac);
+        Ok(true)
+    }
+}

@@ -1,0 +1,13 @@
+//! The audit log: a chain of lines, each with a mac over all before it, and its verifier.
+#![tactic(auto)]
+
+mod chain;
+mod detail;
+mod kind;
+mod line;
+mod note;
+
+pub use chain::Chain;
+pub use detail::Detail;
+pub use kind::NoteKind;
+pub use note::Note;

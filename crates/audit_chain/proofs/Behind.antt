@@ -45,10 +45,10 @@ mod_again m n =
     let whole : m * (n / m) + (n % m + 1) ≡ n + 1 = omega (arith, div-add-mod n m) in
     sym (mul-add-mod_self_left m (n / m) (n % m + 1)) ∙ ap (λ (k : ℕ). k % m) whole
 
-number_again : (p n : ℕ) → p ≡ n % 2 ^ 64 → number_after p ≡ number_after n
+pub number_again : (p n : ℕ) → p ≡ n % 2 ^ 64 → number_after p ≡ number_after n
 number_again p n e = ap number_after e ∙ mod_again (2 ^ 64) n
 
-next_fits : (n : ℕ) → number_after n < 2 ^ 64
+pub next_fits : (n : ℕ) → number_after n < 2 ^ 64
 next_fits n = omega arith
 
 closes_after : (lines : List (List ℕ)) (line : List ℕ) (last : Bool) → list_any closes lines ≡ false → closes line ≡ last → last ≡ list_any closes (lines ++ line ∷ [])
@@ -88,3 +88,10 @@ stands_next key lines p note line s h =
       mac = sym (mac_is key lines p note line (next_mac p note) s h.spelled);
       ended = closes_after lines line (is_close note.kind) (sym s.ended ∙ h.goes) (ap closes h.spelled ∙ closes_line (next_number p) note (next_mac p note) (next_fits p.number));
     }
+
+pub appended_stands : (key : List ℕ) (lines : List (List ℕ)) (p new : Point) (note : Note) (mac : List ℕ) → StandsBehind key lines p → IsNote note → p.ended ≡ false → mac ≡ next_mac p note
+    → new ≡ record { number = next_number p; key = hmac_sha256 p.key (codes "next"); mac = mac; ended = is_close note.kind } → StandsBehind key (lines ++ next_line p note ∷ []) new
+appended_stands key lines p new note mac s formed goes e after =
+    let behind = stands_next key lines p note (next_line p note) s (record { formed = formed; spelled = refl; goes = goes }) in
+    let same : new ≡ point_after p note = after ∙ ap (λ (m : List ℕ). let q : Point = record { number = next_number p; key = hmac_sha256 p.key (codes "next"); mac = m; ended = is_close note.kind } in q) e in
+    subst (λ (q : Point). StandsBehind key (lines ++ next_line p note ∷ []) q) (sym same) behind

@@ -3,3 +3,9 @@ mod Bytes
 mod Fields
 mod Going
 mod Behind
+mod Walking
+mod Short
+mod OneFinding
+mod Pieces
+mod Telling
+mod Goings

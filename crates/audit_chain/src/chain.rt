@@ -1,13 +1,17 @@
-ghost use Rattle.std.specs.Prelude.{◌≡◌, ◌++◌, List, ℕ, [], codes, Ok, IfOk, OnOk, true, false};
+ghost use Rattle.std.specs.Prelude.{◌≡◌, ◌≤◌, ◌↔◌, ◌∷◌, ◌++◌, List, ℕ, [], codes, Ok, IfOk, OnOk, IsErrOf, IsTrue, true, false};
+ghost use Rattle.acra_base.specs.Causes.{Rose};
+ghost use Rattle.acra_base.specs.Pieces.{AppendKeeps};
 ghost use Rattle.acra_crypto.specs.Hmac.{hmac_sha256};
 ghost use Rattle.audit_chain.specs.Kinds.{is_close};
 ghost use Rattle.audit_chain.specs.Lines.{IsNote};
 ghost use Rattle.audit_chain.specs.Points.{next_number, next_mac, next_line, point_after, start, IsNext, StandsBehind};
+ghost use Rattle.audit_chain.specs.Appending.{appended};
 
 use crate::kind::NoteKind;
 use crate::line::{note_text, read_note, with_mac};
 use crate::note::Note;
-use acra_base::NoMemory;
+use crate::refusals::AppendRefusal;
+use acra_base::{Keeper, NoMemory};
 use acra_crypto::{HmacStream, hmac_sha256};
 use std::alloc::Global;
 use std::marker::Model;
@@ -50,6 +54,27 @@ impl Chain {
         }
     }
 
+    /// The number of the last line, 0 before the first.
+    pub fn number(&self) -> u64
+        ensures { result ≡ self.now.number }
+    {
+        self.number
+    }
+
+    /// Whether nothing more can be appended: a line closed the log, or a keeper failed.
+    pub fn is_ended(&self) -> bool
+        ensures { result ≡ self.now.ended }
+    {
+        self.ended
+    }
+
+    /// The number of the next line.
+    pub fn next_number(&self) -> u64
+        ensures { result ≡ next_number self.now }
+    {
+        self.number.wrapping_add(1)
+    }
+
     fn mac(&self, text: &[u8]) -> [u8; 32]
         ensures { result ≡ hmac_sha256 self.now.key (self.now.mac ++ text.now) }
     {
@@ -64,19 +89,65 @@ impl Chain {
         ensures mac { IfOk result (λ line. line.mac ≡ next_mac self.now note.now) }
         ensures formed { OnOk result (IsNote note.now) }
     {
-        let text = note_text(alloc, self.number.wrapping_add(1), note)?;
+        let text = note_text(alloc, self.next_number(), note)?;
         let mac = self.mac(&text);
         let bytes = with_mac(alloc, text, &mac)?;
+        Ok(Line { bytes, mac })
+    }
+
+    // The same with its newline.
+    fn next_written(&self, alloc: Global, note: &Note) -> Result<Line, NoMemory>
+        ensures bytes { IfOk result (λ line. line.bytes.items ≡ next_line self.now note.now ++ 10 ∷ []) }
+        ensures mac { IfOk result (λ line. line.mac ≡ next_mac self.now note.now) }
+        ensures formed { OnOk result (IsNote note.now) }
+    {
+        let Line { mut bytes, mac } = self.next(alloc, note)?;
+        bytes.push(b'\n')?;
         Ok(Line { bytes, mac })
     }
 
     fn advance(&mut self, kind: NoteKind, mac: [u8; 32])
         ensures { self.new ≡ record { number = next_number self.old; key = hmac_sha256 self.old.key (codes "next"); mac = mac; ended = is_close kind } }
     {
-        self.number = self.number.wrapping_add(1);
+        self.number = self.next_number();
         self.key = hmac_sha256(&self.key, b"next");
         self.mac = mac;
         self.ended = kind == NoteKind::Close;
+    }
+
+    /// Appends the line that says a note next, and gives its number. Without memory, or on a closed log, the
+    /// chain stays.
+    pub fn append<K: Keeper>(
+        &mut self,
+        alloc: Global,
+        keeper: &mut K,
+        note: &Note,
+    ) -> Result<u64, AppendRefusal>
+        ensures closed { (result ≡ Err AppendRefusal.Closed) ↔ IsTrue self.old.ended }
+        ensures number { IfOk result (λ number. number ≡ next_number self.old) }
+        ensures kept { AppendKeeps (K.kept keeper.old) (K.kept keeper.new) result (next_line self.old note.now ++ 10 ∷ []) }
+        ensures chain { self.new ≡ appended self.old note.now result }
+        ensures stands { (key : List ℕ) (lines : List (List ℕ)) → StandsBehind key lines self.old
+            → OnOk result (StandsBehind key (lines ++ next_line self.old note.now ∷ []) self.new) }
+        ensures later { K.keeper_faults keeper.old ≤ K.keeper_faults keeper.new }
+        ensures keeper_fault { IsErrOf result AppendRefusal.KeeperFault → Rose (K.keeper_faults keeper.old) (K.keeper_faults keeper.new) }
+    {
+        if self.ended {
+            return Err(AppendRefusal::Closed);
+        }
+        let Ok(line) = self.next_written(alloc, note) else {
+            return Err(AppendRefusal::NoMemory);
+        };
+        match keeper.append(&line.bytes) {
+            Ok(()) => {
+                self.advance(note.kind, line.mac);
+                Ok(self.number)
+            }
+            Err(_) => {
+                self.ended = true;
+                Err(AppendRefusal::KeeperFault)
+            }
+        }
     }
 
     /// Goes on by a line, without its newline, where it is the next one.

@@ -6,8 +6,19 @@ mod detail;
 mod kind;
 mod line;
 mod note;
+mod reading;
+mod refusals;
+mod resuming;
+mod stop;
+mod verifier;
+mod walk;
 
 pub use chain::Chain;
 pub use detail::Detail;
 pub use kind::NoteKind;
 pub use note::Note;
+pub use refusals::{AppendRefusal, ResumeFault};
+pub use verifier::{AuditVerdict, VerifyFault, verify};
+
+#[cfg(test)]
+mod tests;

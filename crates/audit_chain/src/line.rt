@@ -19,7 +19,10 @@ fn client_word(client: &Option<ClientId>) -> &[u8]
 {
     match client {
         None => b"-",
-        Some(client) => client.text(),
+        Some(client) => {
+            client.is_spelled();
+            client.text()
+        }
     }
 }
 

@@ -62,3 +62,7 @@ FindsIn key bytes ends finding = (lines : List (List ℕ)) × (rest : List ℕ) 
 -- what is found in a log under a key, of which 2^48 bytes are read
 abbrev pub Finds : List ℕ → List ℕ → Finding → Type 0
 Finds key log finding = FindsIn key (take (2 ^ 48) log) (nat_lt (length log) (2 ^ 48)) finding
+
+-- two findings in a log are one
+abbrev pub OneFinding : Type 0
+OneFinding = (key log : List ℕ) (f g : Finding) → Finds key log f → Finds key log g → f ≡ g

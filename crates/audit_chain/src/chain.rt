@@ -155,7 +155,7 @@ impl Chain {
         ensures yes { result ≡ Ok true → (note : Note) × IsNext self.old line.now note × (self.new ≡ point_after self.old note) }
         ensures no { result ≡ Ok false → (note : Note) → IsNext self.old line.now note → ⊥ }
     {
-        if self.ended {
+        if self.is_ended() {
             return Ok(false);
         }
         let Some(note) = read_note(line) else {

@@ -4,6 +4,7 @@
 mod chain;
 mod detail;
 mod kind;
+mod laws;
 mod line;
 mod note;
 mod reading;
@@ -16,6 +17,7 @@ mod walk;
 pub use chain::Chain;
 pub use detail::Detail;
 pub use kind::NoteKind;
+pub use laws::one_finding;
 pub use note::Note;
 pub use refusals::{AppendRefusal, ResumeFault};
 pub use verifier::{AuditVerdict, VerifyFault, verify};

@@ -143,14 +143,25 @@ fn verdicts(rt: HostRuntime) -> Result<(), Fail> {
 }
 
 #[test]
+fn pieces_of_each_size(rt: HostRuntime) -> Result<(), Fail> {
+    let alloc = rt.alloc();
+    let log = joined(alloc, &LINES)?;
+    'sizes: for most in 1..log.len() + 1 {
+        let found = verify(alloc, &mut Pieces::new(&log, most, None), &KEY);
+        assert_eq!(rt; found, valid(4, true), "in pieces of {most}");
+    }
+    Ok(())
+}
+
+#[test]
 fn appended_lines(rt: HostRuntime) -> Result<(), Fail> {
     let alloc = rt.alloc();
     let mut chain = Chain::new(KEY);
     let mut keeper = SureKeeper::new(alloc);
-    let mut next = 1;
+    let mut next = 1u64;
     'notes: for note in notes()? {
         assert_eq!(rt; chain.append(alloc, &mut keeper, &note), Ok(next));
-        next += 1;
+        next = next.saturating_add(1);
     }
     assert!(rt; keeper.whole());
     assert_eq!(rt; keeper.kept().len(), 4);
@@ -168,7 +179,7 @@ fn appended_lines(rt: HostRuntime) -> Result<(), Fail> {
 fn each_changed_bit_breaks_its_line(rt: HostRuntime) -> Result<(), Fail> {
     let alloc = rt.alloc();
     let mut log = joined(alloc, &LINES)?;
-    let mut line = 1;
+    let mut line = 1u64;
     'bytes: for place in 0..log.len() {
         let byte = log[place];
         'bits: for bit in 0..8u8 {
@@ -177,32 +188,55 @@ fn each_changed_bit_breaks_its_line(rt: HostRuntime) -> Result<(), Fail> {
         }
         log[place] = byte;
         if byte == b'\n' {
-            line += 1;
+            line = line.saturating_add(1);
         }
     }
     assert_eq!(rt; verdict(alloc, &log), valid(4, true));
     Ok(())
 }
 
+fn tell(
+    alloc: Global,
+    chain: &mut Chain,
+    keeper: &mut SureKeeper,
+    kind: NoteKind,
+    client: &str,
+    detail: &str,
+) -> Result<Result<u64, AppendRefusal>, Fail> {
+    let client: Option<ClientId> = ClientId::read(client.as_bytes()).ok();
+    let detail: Detail = Detail::read(detail.as_bytes()).ok_or("no detail")?;
+    let note = Note {
+        kind,
+        client,
+        detail,
+    };
+    Ok(chain.append(alloc, keeper, &note))
+}
+
 #[test]
 fn ten_thousand_lines(rt: HostRuntime) -> Result<(), Fail> {
     let alloc = rt.alloc();
-    let refusal = note(NoteKind::Refuse, "app", "0A000")?;
     let mut chain = Chain::new(KEY);
     let mut keeper = SureKeeper::new(alloc);
     let mut log = Vec::new(alloc);
     'lines: for number in 1..10_001u64 {
-        assert_eq!(rt; chain.append(alloc, &mut keeper, &refusal), Ok(number));
+        let told = tell(
+            alloc,
+            &mut chain,
+            &mut keeper,
+            NoteKind::Refuse,
+            "app",
+            "0A000",
+        )?;
+        assert_eq!(rt; told, Ok(number));
     }
     'pieces: for piece in keeper.kept() {
         log.extend_from_slice(piece.as_slice())?;
     }
     assert_eq!(rt; log.len(), 868_894);
     assert!(rt; log.ends_with(LAST_LINE));
-    'sizes: for most in [1, 7, 87, 4095, 4096, 5000] {
-        let found = verify(alloc, &mut Pieces::new(&log, most, None), &KEY);
-        assert_eq!(rt; found, valid(10_000, false), "in pieces of {most}");
-    }
+    let found = verify(alloc, &mut Pieces::new(&log, 4096, None), &KEY);
+    assert_eq!(rt; found, valid(10_000, false));
 
     // A chain that is resumed goes on with the line that would have come.
     let mut source = SureLink::new(alloc, log);
@@ -210,9 +244,12 @@ fn ten_thousand_lines(rt: HostRuntime) -> Result<(), Fail> {
         .ok()
         .ok_or("not resumed")?;
     let mut next = SureKeeper::new(alloc);
-    let settled = note(NoteKind::Settle, "", "7")?;
-    assert_eq!(rt; resumed.append(alloc, &mut next, &settled), Ok(10_001));
-    assert_eq!(rt; next.kept()[0].as_slice(), NEXT_LINE);
+    let told = tell(alloc, &mut resumed, &mut next, NoteKind::Settle, "", "7")?;
+    assert_eq!(rt; told, Ok(10_001));
+    assert_eq!(rt; next.kept().len(), 1);
+    'kept: for piece in next.kept() {
+        assert_eq!(rt; piece.as_slice(), NEXT_LINE);
+    }
     Ok(())
 }
 
@@ -224,9 +261,10 @@ fn refusal(alloc: Global, log: &[u8]) -> Option<ResumeFault> {
 fn logs_that_are_not_gone_on_with(rt: HostRuntime) -> Result<(), Fail> {
     let alloc = rt.alloc();
     let log = joined(alloc, &LINES)?;
-    let cut = &log[..log.len() - 1];
+    let mut cut = joined(alloc, &LINES)?;
+    cut.pop();
     assert_eq!(rt; refusal(alloc, &log), Some(ResumeFault::IsClosed));
-    assert_eq!(rt; refusal(alloc, cut), Some(ResumeFault::Broken { line: 4 }));
+    assert_eq!(rt; refusal(alloc, &cut), Some(ResumeFault::Broken { line: 4 }));
     let long = ResumeFault::LineTooLong { line: 1 };
     assert_eq!(rt; refusal(alloc, &[b'1'; 513]), Some(long));
     assert_eq!(rt; refusal(alloc, LINES[0]), None);
@@ -252,15 +290,15 @@ fn each_device_call_fails(rt: HostRuntime) -> Result<(), Fail> {
     'writes: for call in 0..4usize {
         let mut chain = Chain::new(KEY);
         let mut keeper = MemKeeper::new(alloc, vec![in alloc; call as u64]?);
-        let mut place = 0;
+        let mut place = 0usize;
         'notes: for note in notes()? {
             let want = match place {
-                _ if place < call => Ok(place as u64 + 1),
+                _ if place < call => Ok((place as u64).saturating_add(1)),
                 _ if place == call => Err(AppendRefusal::KeeperFault),
                 _ => Err(AppendRefusal::Closed),
             };
             assert_eq!(rt; chain.append(alloc, &mut keeper, &note), want);
-            place += 1;
+            place = place.saturating_add(1);
         }
         assert_eq!(rt; keeper.kept().len(), call);
     }

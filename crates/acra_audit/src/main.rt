@@ -19,14 +19,7 @@ fn main(rt: HostRuntime) -> io::Result<ExitCode> {
     let mut ring = FileSource::open(&rt, &words, "keystore")?;
     let mut log = FileSource::open(&rt, &words, "audit")?;
     let mut output = WriterSink::new(io::writer(&rt));
-    let status = audit_top(
-        alloc,
-        &words,
-        &mut master,
-        &mut ring,
-        &mut log,
-        &mut output,
-    );
+    let status = audit_top(alloc, &words, &mut master, &mut ring, &mut log, &mut output);
     if status.code() != 0 {
         eprintln!(rt; "acra_audit: {status}")?;
     }

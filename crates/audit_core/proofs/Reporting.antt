@@ -24,10 +24,10 @@ print_reports : (key : List ℕ) (held held' : Option (List ℕ)) (word : List �
     → (Grew held held' (printed finding) → Reported key held held' wanted log) → Reported key held held' status log
 print_reports key held held' word number last wanted status log finding p e f done =
     elim p [
-    inl a ↦ subst (λ (s : AuditStatus). Reported key held held' s log) (sym a.0) (done (subst (Grew held held') (sym e) a.1))
-    | inr b ↦ elim b [
-      inl n ↦ subst (λ (s : AuditStatus). Reported key held held' s log) (sym n.0) n.1
-      | inr w ↦ subst (λ (s : AuditStatus). Reported key held held' s log) (sym w.0) (finding, f, subst (WroteFront held held') (sym e) w.1)
+      | inl a ↦ subst (λ (s : AuditStatus). Reported key held held' s log) (sym a.0) (done (subst (Grew held held') (sym e) a.1))
+      | inr b ↦ elim b [
+        | inl n ↦ subst (λ (s : AuditStatus). Reported key held held' s log) (sym n.0) n.1
+        | inr w ↦ subst (λ (s : AuditStatus). Reported key held held' s log) (sym w.0) (finding, f, subst (WroteFront held held') (sym e) w.1)
       ]
     ]
 

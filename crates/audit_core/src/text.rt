@@ -18,12 +18,7 @@ fn number_text(alloc: Global, word: &[u8], number: u64) -> Result<Bytes, NoMemor
 }
 
 /// A line of a word, a number and what ends it.
-pub fn number_line(
-    alloc: Global,
-    word: &[u8],
-    number: u64,
-    end: &[u8],
-) -> Result<Bytes, NoMemory>
+pub fn number_line(alloc: Global, word: &[u8], number: u64, end: &[u8]) -> Result<Bytes, NoMemory>
     ensures { IfOk result (λ text. text ≡ word.now ++ decimal number ++ end.now) }
 {
     let mut text = number_text(alloc, word, number)?;

@@ -10,4 +10,4 @@ returns-in-Err-Refused-audit_key-clause-exact g c one =
 pub returns-clause-exact : goal.returns-clause-exact
 returns-clause-exact g c one =
     where_map _ _ _ _ (λ m is. where_map _ _ _ _ (λ r both. where_map _ _ _ _ (λ l due. reported_due m r l c.in-Ok.key c.in-Ok-audit_key.key c.report.result is both.0 both.1 due) c.report.ensures.exact)
-        (where_both _ _ _ _ c.in-Ok-audit_key.ensures.found c.in-Ok-audit_key.ensures.exact)) c.in-Ok.ensures.found
+    (where_both _ _ _ _ c.in-Ok-audit_key.ensures.found c.in-Ok-audit_key.ensures.exact)) c.in-Ok.ensures.found

@@ -1,4 +1,5 @@
 pub mod Items
+pub mod Ids
 pub mod Names
 pub mod Keeping
 pub mod Edits

@@ -35,6 +35,11 @@ pub record RingState : Type 0 where
   -- the tickets out, oldest first, each abandoned or not
   pub out : List Ticket
 
+-- a ring that was kept, of which no ticket is out
+abbrev pub restored_ring : List ℕ → List ℕ → List ℕ → List ClientKeys → ℕ → RingState
+restored_ring token_key store_key audit_key clients next_id =
+    record { token_key = token_key; store_key = store_key; audit_key = audit_key; clients = clients; next_id = next_id; next_ticket = 1; out = [] }
+
 -- ---- clients
 
 -- by their bytes

@@ -1,4 +1,6 @@
 ghost use Rattle.std.specs.Prelude.{◌≡◌, ◌++◌, ◌∷◌, [], ◌≤◌, length, IfOk, OnOk, OnErr, map};
+ghost use Rattle.keystore.specs.Lists.{AscendsBy};
+ghost use Rattle.keystore.specs.Kept.{IsOlder, has_id};
 ghost use Rattle.keystore.specs.Rings.{name_cmp, current_key, live_keys, lines_of, phase_of, rotated, marked, without};
 
 use crate::keys::KeyLine;
@@ -9,9 +11,9 @@ use std::alloc::Global;
 use std::cmp::Ordering;
 use std::marker::Model;
 
-/// A client with its keys.
+/// A client with its keys: the current one, and those that were current, oldest first.
 #[derive(Drop)]
-pub(crate) struct Client {
+pub struct Client {
     name: ClientId,
     search: [u8; 32],
     id: u64,
@@ -46,14 +48,70 @@ impl Client {
         }
     }
 
-    pub(crate) fn name(&self) -> &ClientId
+    /// A client that was kept, with all its keys.
+    pub fn restored(
+        name: ClientId,
+        search: [u8; 32],
+        past: Vec<OldKey>,
+        id: u64,
+        key: [u8; 32],
+    ) -> Client
+        ensures { result ≡ record { name = name; search = search; id = id; key = key; past = past.items } }
+    {
+        Client {
+            name,
+            search,
+            id,
+            key,
+            past,
+        }
+    }
+
+    /// Its name.
+    pub fn name(&self) -> &ClientId
         ensures { result.now ≡ self.now.name }
     {
         &self.name
     }
 
+    /// The key of its blind indexes.
+    pub fn search(&self) -> &[u8; 32]
+        ensures { result.now ≡ self.now.search }
+    {
+        &self.search
+    }
+
+    /// The id of its current key.
+    pub fn id(&self) -> u64
+        ensures { result ≡ self.now.id }
+    {
+        self.id
+    }
+
+    /// Its current key.
+    pub fn key(&self) -> &[u8; 32]
+        ensures { result.now ≡ self.now.key }
+    {
+        &self.key
+    }
+
+    /// Its keys that were current, oldest first.
+    pub fn past(&self) -> &[OldKey]
+        ensures { result.now ≡ self.now.past }
+    {
+        &self.past
+    }
+
+    /// Whether it has a key of this id.
+    pub fn has_key(&self, id: u64) -> bool
+        requires { AscendsBy IsOlder self.now.past }
+        ensures { result ≡ has_id id self.now }
+    {
+        self.id == id || phase::has_key(&self.past, id)
+    }
+
     /// How its name stands to this one, by bytes.
-    pub(crate) fn compare(&self, who: &ClientId) -> Ordering
+    pub fn compare(&self, who: &ClientId) -> Ordering
         ensures { result ≡ name_cmp self.now.name who.now }
     {
         self.name.text().cmp(who.text())

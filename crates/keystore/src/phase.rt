@@ -1,5 +1,6 @@
 ghost use Rattle.std.specs.Prelude.{◌≡◌, ◌∷◌, [], option_map};
-ghost use Rattle.keystore.specs.Lists.{first, edited};
+ghost use Rattle.keystore.specs.Lists.{first, edited, AscendsBy};
+ghost use Rattle.keystore.specs.Kept.{IsOlder, has_old};
 ghost use Rattle.keystore.specs.Places.{IsPlace};
 ghost use Rattle.keystore.specs.Rings.{is_key, phase_of_old, old_phase_of, swept_phase, swept_key, number_of};
 
@@ -14,10 +15,12 @@ pub(crate) enum Phase {
     Swept(u64),
 }
 
-/// What a key is that was current.
+/// What a key is that was current, since this ticket was the next one.
 #[derive(Clone, Copy)]
-pub(crate) enum OldPhase {
+pub enum OldPhase {
+    /// Only leases with a ticket below have it as current.
     Draining(u64),
+    /// No cell has its id.
     Swept(u64),
 }
 
@@ -42,8 +45,8 @@ impl OldPhase {
         }
     }
 
-    /// Its number in a list of keys.
-    pub(crate) fn number(self) -> u8
+    /// Its number in a list of keys: 1 where it drains, 2 where it is swept.
+    pub fn number(self) -> u8
         ensures { result ≡ number_of self }
     {
         match self {
@@ -55,10 +58,13 @@ impl OldPhase {
 
 /// A key that was current.
 #[derive(Clone, Copy)]
-pub(crate) struct OldKey {
-    pub(crate) id: u64,
-    pub(crate) key: [u8; 32],
-    pub(crate) phase: OldPhase,
+pub struct OldKey {
+    /// Its id.
+    pub id: u64,
+    /// The key.
+    pub key: [u8; 32],
+    /// What it is now.
+    pub phase: OldPhase,
 }
 
 /// Where the key of this id stands.
@@ -71,6 +77,14 @@ fn place_of(past: &[OldKey], id: u64) -> Option<usize>
         }
     }
     None
+}
+
+/// Whether there is a key of this id.
+pub(crate) fn has_key(past: &[OldKey], id: u64) -> bool
+    requires { AscendsBy IsOlder past.now }
+    ensures { result ≡ has_old id past.now }
+{
+    past.binary_search_by(|key| key.id.cmp(&id)).is_ok()
 }
 
 /// The phase of the key of this id.

@@ -3,7 +3,7 @@ ghost use Rattle.std.specs.List.{AllByRecursion};
 ghost use Rattle.keystore.specs.declared.refusals.AddRefusal.TheVariants as no_add;
 ghost use Rattle.keystore.specs.declared.refusals.LeaseRefusal.TheVariants as no_lease;
 ghost use Rattle.keystore.specs.declared.refusals.RotateRefusal.TheVariants as no_rotation;
-ghost use Rattle.keystore.specs.Rings.{client_of, view_of, currents_of, missing, released, abandoned, settled, is_abandoned, phase_in, least_below, lines_where};
+ghost use Rattle.keystore.specs.Rings.{restored_ring, client_of, view_of, currents_of, missing, released, abandoned, settled, is_abandoned, phase_in, least_below, lines_where};
 ghost use Rattle.keystore.specs.Answers.{Answers, Settles, add_refusal, with_client, lease_refusal, lease_of, with_lease, rotate_refusal, with_rotation, drain_refusal, retire_refusal, with_marked, with_retired};
 ghost use Rattle.keystore.specs.Lists.{AscendsBy};
 ghost use Rattle.keystore.specs.Kept.{IsBefore, IsKept};
@@ -70,6 +70,44 @@ impl Ring {
             next_ticket: 1,
             out: Vec::new(alloc),
         }
+    }
+
+    /// A ring that was kept. No ticket is out, and the next one is 1. It takes no memory.
+    pub fn restored(
+        alloc: Global,
+        token_key: [u8; 32],
+        store_key: [u8; 32],
+        audit_key: [u8; 32],
+        clients: Vec<Client>,
+        next_id: u64,
+    ) -> Ring
+        requires { IsKept (restored_ring token_key store_key audit_key clients.items next_id) }
+        ensures { result ≡ restored_ring token_key store_key audit_key clients.items next_id }
+    {
+        Ring {
+            token_key,
+            store_key,
+            audit_key,
+            clients,
+            next_id,
+            next_ticket: 1,
+            out: Vec::new(alloc),
+        }
+    }
+
+    /// Its clients, in ascending order of name bytes.
+    pub fn clients(&self) -> &[Client]
+        ensures value { result.now ≡ self.now.clients }
+        ensures kept { IsKept self.now }
+    {
+        &self.clients
+    }
+
+    /// The id that the next key gets.
+    pub fn next_id(&self) -> u64
+        ensures { result ≡ self.now.next_id }
+    {
+        self.next_id
     }
 
     fn find(&self, who: &ClientId) -> Option<&Client>

@@ -1,0 +1,11 @@
+mod Splitting
+mod Bytes
+mod Fields
+mod Going
+mod Behind
+mod Walking
+mod Short
+mod OneFinding
+mod Pieces
+mod Telling
+mod Goings

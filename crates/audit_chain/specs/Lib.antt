@@ -1,0 +1,12 @@
+pub mod Kinds
+pub mod Details
+pub mod Lines
+pub mod Words
+pub mod Chains
+pub mod Points
+pub mod Findings
+pub mod Walks
+pub mod Reads
+pub mod Verdicts
+pub mod Resuming
+pub mod Appending

@@ -1,0 +1,324 @@
+use super::*;
+use acra_base::{ClientId, Failed, MemKeeper, MemLink, Source, SureKeeper, SureLink};
+use std::alloc::Global;
+use std::test::Fail;
+
+/// The key of the logs below: the bytes 0 to 31.
+const KEY: [u8; 32] = [
+    0, 1, 2, 3, 4, 5, 6, 7, 8, 9, 10, 11, 12, 13, 14, 15, 16, 17, 18, 19, 20, 21, 22, 23, 24, 25,
+    26, 27, 28, 29, 30, 31,
+];
+
+/// The lines of a log, as Python's hmac makes them.
+const LINES: [&[u8]; 4] = [
+    b"1 start app - 1691e4162715e775c2b6d34fdb5413591e853169df3210b70212c53be302da66\n",
+    b"2 deny app 2.1 00ee352746a94794a08ffc37f6e271763ae26f20eb8ed4d4582a0ca399440c5f\n",
+    b"3 rotate web_2 18446744073709551615 \
+      5d2dfcf051b4be6b88e740c879647ff4158715f9061e5fa141ab1e26c14900b2\n",
+    b"4 close - - 9a556ec792f1c7df3264a0106bf772e8fbe8d1b871be0d0078728712518a0f0d\n",
+];
+
+/// The last of 10,000 lines that each tell of a refusal with the code 0A000, and the line behind it,
+/// as Python's hmac makes them.
+const LAST_LINE: &[u8] = b"10000 refuse app 0A000 \
+    f5f284caa0014d5015891599a130d1859758a72d1722a036f25012ec8626023b\n";
+
+const NEXT_LINE: &[u8] = b"10001 settle - 7 \
+    e949fa78c357a4d72330b4240b24fa99f503097e62704f345c2dc4b4b0305c00\n";
+
+/// Gives a few bytes at a read. The read with this number fails.
+#[derive(Drop)]
+struct Pieces<'a> {
+    left: &'a [u8],
+    most: usize,
+    failing: Option<u64>,
+    calls: u64,
+    faults: u64,
+}
+
+impl<'a> Pieces<'a> {
+    fn new(left: &'a [u8], most: usize, failing: Option<u64>) -> Self {
+        Pieces {
+            left,
+            most,
+            failing,
+            calls: 0,
+            faults: 0,
+        }
+    }
+}
+
+impl<'a> Source for Pieces<'a> {
+    ghost use Rattle.std.specs.Prelude.{None};
+
+    ghost left = { λ _. None };
+
+    ghost read_faults = { λ s. s.faults };
+
+    fn read(&mut self, buf: &mut [u8]) -> Result<usize, Failed> {
+        let call = self.calls;
+        self.calls = self.calls.saturating_add(1);
+        if self.failing == Some(call) {
+            self.faults = self.faults.saturating_add(1);
+            return Err(Failed);
+        }
+        let count = self.left.len().min(buf.len()).min(self.most);
+        let (front, rest) = self.left.split_at(count);
+        buf[..count].copy_from_slice(front);
+        self.left = rest;
+        Ok(count)
+    }
+}
+
+fn note(kind: NoteKind, client: &str, detail: &str) -> Result<Note, Fail> {
+    Ok(Note {
+        kind,
+        client: ClientId::read(client.as_bytes()).ok(),
+        detail: Detail::read(detail.as_bytes()).ok_or("no detail")?,
+    })
+}
+
+/// What the four lines tell.
+fn notes() -> Result<[Note; 4], Fail> {
+    Ok([
+        note(NoteKind::Start, "app", "-")?,
+        note(NoteKind::Deny, "app", "2.1")?,
+        note(NoteKind::Rotate, "web_2", "18446744073709551615")?,
+        note(NoteKind::Close, "", "-")?,
+    ])
+}
+
+fn joined(alloc: Global, parts: &[&[u8]]) -> Result<Vec<u8>, Fail> {
+    let mut bytes = Vec::new(alloc);
+    'parts: for part in parts {
+        bytes.extend_from_slice(part)?;
+    }
+    Ok(bytes)
+}
+
+fn verdict(alloc: Global, log: &[u8]) -> Result<AuditVerdict, VerifyFault> {
+    verify(alloc, &mut Pieces::new(log, 100, None), &KEY)
+}
+
+fn valid(lines: u64, closed: bool) -> Result<AuditVerdict, VerifyFault> {
+    Ok(AuditVerdict::Valid { lines, closed })
+}
+
+fn broken(line: u64) -> Result<AuditVerdict, VerifyFault> {
+    Ok(AuditVerdict::Broken { line })
+}
+
+fn long(line: u64) -> Result<AuditVerdict, VerifyFault> {
+    Err(VerifyFault::LineTooLong { line })
+}
+
+#[test]
+fn verdicts(rt: HostRuntime) -> Result<(), Fail> {
+    let alloc = rt.alloc();
+    let [one, two, three, four] = LINES;
+    let altered: &[u8] = b"3 rotate web_2 18446744073709551614 \
+        5d2dfcf051b4be6b88e740c879647ff4158715f9061e5fa141ab1e26c14900b2\n";
+    let cases: [(&[&[u8]], Result<AuditVerdict, VerifyFault>); 15] = [
+        (&[one, two, three, four], valid(4, true)),
+        (&[one, two, altered, four], broken(3)),
+        (&[one, two, three], valid(3, false)),
+        (&[one, three, two, four], broken(2)),
+        (&[one, two, three, &four[..four.len() - 1]], broken(4)),
+        (&[], valid(0, false)),
+        (&[&[b'a'; 513], b"\n"], long(1)),
+        (&[&[b'a'; 512], b"\n"], broken(1)),
+        (&[&[b'a'; 512]], broken(1)),
+        (&[&[b'a'; 513]], long(1)),
+        (&[one, two, three, four, four], broken(5)),
+        (&[one, two, three, four, &[b'a'; 513]], long(5)),
+        (&[one, b"\n"], broken(2)),
+        (&[two], broken(1)),
+        (&[b"0", one], broken(1)),
+    ];
+    'cases: for (parts, want) in cases {
+        let log = joined(alloc, parts)?;
+        assert_eq!(rt; verdict(alloc, &log), want, "at {parts:?}");
+    }
+    Ok(())
+}
+
+#[test]
+fn pieces_of_each_size(rt: HostRuntime) -> Result<(), Fail> {
+    let alloc = rt.alloc();
+    let log = joined(alloc, &LINES)?;
+    'sizes: for most in 1..log.len() + 1 {
+        let found = verify(alloc, &mut Pieces::new(&log, most, None), &KEY);
+        assert_eq!(rt; found, valid(4, true), "in pieces of {most}");
+    }
+    Ok(())
+}
+
+#[test]
+fn appended_lines(rt: HostRuntime) -> Result<(), Fail> {
+    let alloc = rt.alloc();
+    let mut chain = Chain::new(KEY);
+    let mut keeper = SureKeeper::new(alloc);
+    let mut next = 1u64;
+    'notes: for note in notes()? {
+        assert_eq!(rt; chain.append(alloc, &mut keeper, &note), Ok(next));
+        next = next.saturating_add(1);
+    }
+    assert!(rt; keeper.whole());
+    assert_eq!(rt; keeper.kept().len(), 4);
+    'lines: for place in 0..4 {
+        assert_eq!(rt; keeper.kept()[place].as_slice(), LINES[place]);
+    }
+    let late = note(NoteKind::Settle, "", "7")?;
+    let refused = chain.append(alloc, &mut keeper, &late);
+    assert_eq!(rt; refused, Err(AppendRefusal::Closed));
+    assert_eq!(rt; keeper.kept().len(), 4);
+    Ok(())
+}
+
+#[test]
+fn each_changed_bit_breaks_its_line(rt: HostRuntime) -> Result<(), Fail> {
+    let alloc = rt.alloc();
+    let mut log = joined(alloc, &LINES)?;
+    let mut line = 1u64;
+    'bytes: for place in 0..log.len() {
+        let byte = log[place];
+        'bits: for bit in 0..8u8 {
+            log[place] = byte ^ (1 << bit);
+            assert_eq!(rt; verdict(alloc, &log), broken(line), "at {place}, bit {bit}");
+        }
+        log[place] = byte;
+        if byte == b'\n' {
+            line = line.saturating_add(1);
+        }
+    }
+    assert_eq!(rt; verdict(alloc, &log), valid(4, true));
+    Ok(())
+}
+
+fn tell(
+    alloc: Global,
+    chain: &mut Chain,
+    keeper: &mut SureKeeper,
+    kind: NoteKind,
+    client: &str,
+    detail: &str,
+) -> Result<Result<u64, AppendRefusal>, Fail> {
+    let client: Option<ClientId> = ClientId::read(client.as_bytes()).ok();
+    let detail: Detail = Detail::read(detail.as_bytes()).ok_or("no detail")?;
+    let note = Note {
+        kind,
+        client,
+        detail,
+    };
+    Ok(chain.append(alloc, keeper, &note))
+}
+
+#[test]
+fn ten_thousand_lines(rt: HostRuntime) -> Result<(), Fail> {
+    let alloc = rt.alloc();
+    let mut chain = Chain::new(KEY);
+    let mut keeper = SureKeeper::new(alloc);
+    let mut log = Vec::new(alloc);
+    'lines: for number in 1..10_001u64 {
+        let told = tell(
+            alloc,
+            &mut chain,
+            &mut keeper,
+            NoteKind::Refuse,
+            "app",
+            "0A000",
+        )?;
+        assert_eq!(rt; told, Ok(number));
+    }
+    'pieces: for piece in keeper.kept() {
+        log.extend_from_slice(piece.as_slice())?;
+    }
+    assert_eq!(rt; log.len(), 868_894);
+    assert!(rt; log.ends_with(LAST_LINE));
+    let found = verify(alloc, &mut Pieces::new(&log, 4096, None), &KEY);
+    assert_eq!(rt; found, valid(10_000, false));
+
+    // A chain that is resumed goes on with the line that would have come.
+    let mut source = SureLink::new(alloc, log);
+    let mut resumed = Chain::resume(alloc, &mut source, &KEY)
+        .ok()
+        .ok_or("not resumed")?;
+    let mut next = SureKeeper::new(alloc);
+    let told = tell(alloc, &mut resumed, &mut next, NoteKind::Settle, "", "7")?;
+    assert_eq!(rt; told, Ok(10_001));
+    assert_eq!(rt; next.kept().len(), 1);
+    'kept: for piece in next.kept() {
+        assert_eq!(rt; piece.as_slice(), NEXT_LINE);
+    }
+    Ok(())
+}
+
+fn refusal(alloc: Global, log: &[u8]) -> Option<ResumeFault> {
+    Chain::resume(alloc, &mut Pieces::new(log, 100, None), &KEY).err()
+}
+
+#[test]
+fn logs_that_are_not_gone_on_with(rt: HostRuntime) -> Result<(), Fail> {
+    let alloc = rt.alloc();
+    let log = joined(alloc, &LINES)?;
+    let mut cut = joined(alloc, &LINES)?;
+    cut.pop();
+    assert_eq!(rt; refusal(alloc, &log), Some(ResumeFault::IsClosed));
+    assert_eq!(rt; refusal(alloc, &cut), Some(ResumeFault::Broken { line: 4 }));
+    let long = ResumeFault::LineTooLong { line: 1 };
+    assert_eq!(rt; refusal(alloc, &[b'1'; 513]), Some(long));
+    assert_eq!(rt; refusal(alloc, LINES[0]), None);
+    let mut failing = MemLink::new(alloc, log, vec![in alloc; 0]?);
+    let resumed = Chain::resume(alloc, &mut failing, &KEY);
+    assert_eq!(rt; resumed.err(), Some(ResumeFault::ReadFault));
+    Ok(())
+}
+
+#[test]
+fn each_device_call_fails(rt: HostRuntime) -> Result<(), Fail> {
+    let alloc = rt.alloc();
+    let log = joined(alloc, &LINES)?;
+    // One read more finds the end.
+    'reads: for call in 0..log.len() as u64 + 1 {
+        let found = verify(alloc, &mut Pieces::new(&log, 1, Some(call)), &KEY);
+        assert_eq!(rt; found, Err(VerifyFault::ReadFault), "at read {call}");
+    }
+    let past = log.len() as u64 + 1;
+    let found = verify(alloc, &mut Pieces::new(&log, 1, Some(past)), &KEY);
+    assert_eq!(rt; found, valid(4, true));
+
+    'writes: for call in 0..4usize {
+        let mut chain = Chain::new(KEY);
+        let mut keeper = MemKeeper::new(alloc, vec![in alloc; call as u64]?);
+        let mut place = 0usize;
+        'notes: for note in notes()? {
+            let want = match place {
+                _ if place < call => Ok((place as u64).saturating_add(1)),
+                _ if place == call => Err(AppendRefusal::KeeperFault),
+                _ => Err(AppendRefusal::Closed),
+            };
+            assert_eq!(rt; chain.append(alloc, &mut keeper, &note), want);
+            place = place.saturating_add(1);
+        }
+        assert_eq!(rt; keeper.kept().len(), call);
+    }
+    Ok(())
+}
+
+#[test]
+fn details(rt: HostRuntime) {
+    let cases: [(&[u8], bool); 9] = [
+        (b"-", true),
+        (b"2.1", true),
+        (b"42P01", true),
+        (b"azAZ09.-", true),
+        (&[b'a'; 64], true),
+        (b"", false),
+        (&[b'a'; 65], false),
+        (b"a b", false),
+        (b"a_b", false),
+    ];
+    'cases: for (text, is_one) in cases {
+        assert_eq!(rt; Detail::read(text).is_some(), is_one, "at {text:?}");
+    }
+}

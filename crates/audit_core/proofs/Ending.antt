@@ -1,0 +1,66 @@
+-- How a run ends, by its steps.
+use Rattle.std.proofs.Common.{◌≡◌, ℕ, ◌⊎◌, inl, inr, Bool, true, false, List, [], Option, Some, None, Result, Ok, Err, refl, sym, ap, subst, ◌∙◌}
+use Rattle.hex.specs.Hex.{decode_sized}
+use Rattle.acra_base.specs.Known.{Grew}
+use Rattle.acra_base.specs.Grows.{grew_nothing}
+use Rattle.keystore.specs.Rings.{RingState}
+use Rattle.audit_chain.specs.Findings.{Finding, Finds}
+use Rattle.audit_chain.specs.Verdicts.{WhereRead}
+use Rattle.audit_core.specs.Master.{IsMaster, stem}
+use Rattle.audit_core.specs.Keys.{IsKeystore, NoMaster, NoRing, MasterFound, RingFound, RingDue, KeyIs}
+use Rattle.audit_core.specs.Reports.{IsReport, Reported, IsDueReport, EndsSo, end_of, is_fault}
+use Rattle.audit_core.specs.Outcomes.{GivesKey, RingIsBad, Outcome, IsDueEnd}
+use Rattle.audit_core.specs.declared.files.FileFault.TheVariants as faults
+use Rattle.audit_core.specs.declared.status.AuditStatus.{AuditStatus}
+use Rattle.audit_core.specs.declared.status.AuditStatus.TheVariants as ends
+
+one_master : (file a b : List ℕ) → IsMaster file a → IsMaster file b → a ≡ b
+one_master file a b p q = let same : Ok a ≡ Ok b = sym p ∙ q in cc
+
+-- ---- the master file gives no key
+
+pub bad_master_due : (m r l : List ℕ) → NoMaster m → IsDueEnd m r l ends.BadMaster
+bad_master_due m r l none = record {
+  bad_master = λ h. inl refl;
+  refused = λ h. absurd (none h.0 h.1);
+  said = λ key finding gives f. absurd (none gives.master gives.is_master);
+}
+
+pub fault_due : (m r l : List ℕ) (status : AuditStatus) → is_fault status ≡ true → IsDueEnd m r l status
+fault_due m r l status fault = record { bad_master = λ h. inr fault; refused = λ h. inr fault; said = λ key finding gives f. inr fault }
+
+-- ---- the keystore file gives no ring
+
+pub refused_due : (m r l master : List ℕ) → IsMaster m master → NoRing master r → IsDueEnd m r l ends.RingRefused
+refused_due m r l master is none = record {
+  bad_master = λ h. absurd (h master is);
+  refused = λ h. inl refl;
+  said = λ key finding gives f. absurd (none gives.ring (subst (λ (k : List ℕ). IsKeystore k r gives.ring) (one_master m gives.master master gives.is_master is) gives.is_ring));
+}
+
+-- ---- both give the key
+
+pub gives_key : (m r master key : List ℕ) → IsMaster m master → RingFound master (Ok key) r → GivesKey m r key
+gives_key m r master key is found = record { master = master; ring = found.0; is_master = is; is_ring = found.1; is_key = found.2 }
+
+pub reported_due : (m r l master key : List ℕ) (status : AuditStatus) → IsMaster m master → RingFound master (Ok key) r → RingDue master (Ok key) r → IsDueReport key status l → IsDueEnd m r l status
+reported_due m r l master key status is found due report = record {
+  bad_master = λ h. absurd (h master is);
+  refused = λ h. absurd (h.2 found.0 (subst (λ (k : List ℕ). IsKeystore k r found.0) (one_master m master h.0 is h.1) found.1));
+  said = λ other finding gives f.
+      let ring : IsKeystore master r gives.ring = subst (λ (k : List ℕ). IsKeystore k r gives.ring) (one_master m gives.master master gives.is_master is) gives.is_ring in
+      let same : other ≡ key = gives.is_key ∙ sym (due gives.ring ring) in
+      report finding (subst (λ (k : List ℕ). Finds k l finding) same f);
+}
+
+pub reported_outcome : (m r l key : List ℕ) (held held' : Option (List ℕ)) (status : AuditStatus) → IsReport status → GivesKey m r key → Reported key held held' status l → Outcome m r l held held' status
+reported_outcome m r l key held held' ends.Usage shape gives h = absurd h
+reported_outcome m r l key held held' ends.BadMaster shape gives h = absurd h
+reported_outcome m r l key held held' ends.RingRefused shape gives h = absurd h
+reported_outcome m r l key held held' (ends.ReadFault file) shape gives h = h
+reported_outcome m r l key held held' ends.NoMemory shape gives h = h
+reported_outcome m r l key held held' ends.Done shape gives h = (key, gives, h)
+reported_outcome m r l key held held' (ends.Broken line) shape gives h = (key, gives, h)
+reported_outcome m r l key held held' (ends.LineTooLong line) shape gives h = (key, gives, h)
+reported_outcome m r l key held held' ends.WriteFault shape gives h = (key, gives, h)
+reported_outcome m r l key held held' ends.Spent shape gives h = (key, gives, h)

@@ -1,0 +1,4 @@
+mod Wholly
+mod Keying
+mod Reporting
+mod Ending

@@ -11,6 +11,7 @@ use Rattle.sql_tree.specs.declared.condition.Cond.{Cond}
 use Rattle.sql_tree.specs.declared.condition.Operand as any_operand
 use Rattle.sql_tree.specs.declared.condition.Operand.TheVariants as any_operands
 use Rattle.sql_tree.specs.declared.statement.Item as any_item
+use Rattle.sql_tree.specs.declared.statement.Items as any_items_type
 use Rattle.sql_tree.specs.declared.statement.Items.TheVariants as any_items
 use Rattle.sql_tree.specs.declared.statement.OrderKey.{OrderKey}
 use Rattle.sql_tree.specs.declared.statement.Statement as any_statement
@@ -23,7 +24,7 @@ use Rattle.sql_profile.specs.declared.statement.Items.TheVariants as select
 use Rattle.sql_profile.specs.declared.statement.Statement.{Statement}
 use Rattle.sql_profile.specs.declared.statement.Statement.TheVariants as statement
 use Rattle.sql_profile.specs.Tree.{notes, id, body, IsColumn, IsItem, AreItems, IsString, AreValues, AreColumns, AreRows, IsStatement}
-use Rattle.plain_tables.specs.Served.{is_notes, is_column, is_item, are_items, narrow_item, is_bare, are_columns, narrow_row, narrow_rows, narrow}
+use Rattle.plain_tables.specs.Served.{is_notes, is_column, is_item, are_items, narrow_item, is_bare, are_columns, narrow_row, narrow_rows, narrow_select, narrow_insert, narrow}
 
 same : (xs ys : List ℕ) → pointwise nat_eq xs ys ≡ true → xs ≡ ys
 same xs ys h = (bytes_decides xs ys).0 h
@@ -113,16 +114,17 @@ inserted_text table (Some names) n s h p =
 
 -- ---- whole statements
 
-select_is : (table : List ℕ) (items : List any_item.Item) (cond : Option Cond) (order : List OrderKey) (limit offset : Option ℕ) (tree : Statement)
-    → narrow (any.Select table (any_items.Columns items) cond order limit offset) ≡ Some tree → IsStatement tree
-select_is table items cond order limit offset tree e =
-    let found = if_some (is_notes table && (is_bare cond order limit offset && are_items items)) (statement.Select table (select.Columns (map narrow_item items))) tree e in
-    let whole = and_parts (is_notes table) (is_bare cond order limit offset && are_items items) found.0 in
-    let parts = and_parts (is_bare cond order limit offset) (are_items items) whole.1 in
+select_is : (table : List ℕ) (all : any_items_type.Items) (bare : Bool) (tree : Statement) → narrow_select table all bare ≡ Some tree → IsStatement tree
+select_is table (any_items.Columns items) bare tree e =
+    let found = if_some (is_notes table && (bare && are_items items)) (statement.Select table (select.Columns (map narrow_item items))) tree e in
+    let whole = and_parts (is_notes table) (bare && are_items items) found.0 in
+    let parts = and_parts bare (are_items items) whole.1 in
     subst IsStatement found.1 (same table notes whole.0, items_are items parts.1)
+select_is table any_items.All bare tree e = absurd cc
+select_is table (any_items.Count label) bare tree e = absurd cc
 
 insert_is : (table : List ℕ) (columns : Option (List (List ℕ))) (rows : List (List any_operand.Operand)) (tree : Statement)
-    → narrow (any.Insert table columns rows) ≡ Some tree → AllByRecursion laws.IsPossible (printed (any.Insert table columns rows)) → IsStatement tree
+    → narrow_insert table columns rows ≡ Some tree → AllByRecursion laws.IsPossible (printed (any.Insert table columns rows)) → IsStatement tree
 insert_is table columns rows tree e possible =
     let found = if_found (is_notes table && are_columns columns) (option_map (λ (rs : List (List Operand)). statement.Insert table columns rs) (narrow_rows rows)) tree e in
     let tests = and_parts (is_notes table) (are_columns columns) found.0 in
@@ -138,9 +140,7 @@ insert_is table columns rows tree e possible =
 
 -- a statement that has a text, as one that is served
 pub narrowed_is : (any_tree : any_statement.Statement) (tree : Statement) → narrow any_tree ≡ Some tree → AllByRecursion laws.IsPossible (printed any_tree) → IsStatement tree
-narrowed_is (any.Select table (any_items.Columns items) cond order limit offset) tree e possible = select_is table items cond order limit offset tree e
-narrowed_is (any.Select table any_items.All cond order limit offset) tree e possible = absurd cc
-narrowed_is (any.Select table (any_items.Count label) cond order limit offset) tree e possible = absurd cc
+narrowed_is (any.Select table all cond order limit offset) tree e possible = select_is table all (is_bare cond order limit offset) tree e
 narrowed_is (any.Insert table columns rows) tree e possible = insert_is table columns rows tree e possible
 narrowed_is any.Empty tree e possible = absurd cc
 narrowed_is (any.Set name value) tree e possible = absurd cc

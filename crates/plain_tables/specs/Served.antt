@@ -5,6 +5,7 @@ use Rattle.sql_tree.specs.declared.condition.Cond.{Cond}
 use Rattle.sql_tree.specs.declared.condition.Operand as any_operand
 use Rattle.sql_tree.specs.declared.condition.Operand.TheVariants as any_operands
 use Rattle.sql_tree.specs.declared.statement.Item as any_item
+use Rattle.sql_tree.specs.declared.statement.Items as any_items_type
 use Rattle.sql_tree.specs.declared.statement.Items.TheVariants as any_items
 use Rattle.sql_tree.specs.declared.statement.OrderKey.{OrderKey}
 use Rattle.sql_tree.specs.declared.statement.Statement as any_statement
@@ -68,8 +69,14 @@ narrow_rows rows = None
 
 -- ---- a statement as one that is served, where it is one
 
+abbrev pub narrow_select : List ℕ → any_items_type.Items → Bool → Option Statement
+narrow_select table (any_items.Columns items) bare = if is_notes table && (bare && are_items items) then Some (statement.Select table (select.Columns (map narrow_item items))) else None
+narrow_select table items bare = None
+
+abbrev pub narrow_insert : List ℕ → Option (List (List ℕ)) → List (List any_operand.Operand) → Option Statement
+narrow_insert table columns rows = if is_notes table && are_columns columns then option_map (λ narrowed. statement.Insert table columns narrowed) (narrow_rows rows) else None
+
 abbrev pub narrow : any_statement.Statement → Option Statement
-narrow (any.Select table (any_items.Columns items) cond order limit offset) =
-    if is_notes table && (is_bare cond order limit offset && are_items items) then Some (statement.Select table (select.Columns (map narrow_item items))) else None
-narrow (any.Insert table columns rows) = if is_notes table && are_columns columns then option_map (λ narrowed. statement.Insert table columns narrowed) (narrow_rows rows) else None
+narrow (any.Select table items cond order limit offset) = narrow_select table items (is_bare cond order limit offset)
+narrow (any.Insert table columns rows) = narrow_insert table columns rows
 narrow tree = None

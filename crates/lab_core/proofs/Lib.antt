@@ -1,3 +1,4 @@
 pub mod SessionWords
 pub mod Told
+pub mod Texts
 mod Worked

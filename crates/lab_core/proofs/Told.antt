@@ -36,7 +36,8 @@ over_says_nothing : (r : Request) → IsSaid Phase.Over r → ⊥
 over_says_nothing (Request.Encrypts how) h = absurd h
 over_says_nothing (Request.Opens params) h = absurd h
 over_says_nothing (Request.Asks text tree) h = absurd h
-over_says_nothing (Request.Refused text) h = absurd h
+over_says_nothing (Request.Empties text) h = absurd h
+over_says_nothing (Request.Refused text cause) h = absurd h
 over_says_nothing Request.Leaves h = absurd h
 
 over : (p : Phase) (bytes : List ℕ) → p ≡ Phase.Over → NoRequest p bytes

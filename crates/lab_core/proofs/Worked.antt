@@ -1,49 +1,23 @@
 -- The session that is worked to the byte, computed.
 use Rattle.std.proofs.Common.{◌≡◌, ◌≢◌, ℕ, negsuc, zero, suc, inl, inr, List, [], ◌∷◌, ◌++◌, codes, Some, refl, sym, subst, lit<, lit≤}
 use Rattle.std.specs.Fmt.{decimal}
-use Rattle.std.specs.Str.{IsAscii}
 use Rattle.std.proofs.lemmas.Fmt.{decimal_digit}
-use Rattle.std.proofs.lemmas.Str.{IsUtf8-from_ascii}
 use Rattle.rand_chacha.specs.ChaCha.{ChaCha}
 use Rattle.pg_wire.specs.declared.back.Field.{Field}
 use Rattle.pg_wire.specs.declared.back.Back.TheVariants as backs
-use Rattle.sql_profile.specs.Tree.{IsStatement, IsString}
-use Rattle.sql_profile.specs.Grammar.{Spells}
-use Rattle.sql_profile.proofs.Printed.{canon_spells}
 use Rattle.table_machine.specs.Replies.{startup_messages, ready}
 use Rattle.table_machine.proofs.Texts.{IsText-from_test}
-use Rattle.plain_tables.specs.Requests.{Request, Phase, IsSaid, IsAsked, AreSaid, NoRequest, Splits}
+use Rattle.plain_tables.specs.Requests.{Request, Phase, IsSaid, IsQuery, AreSaid, NoRequest, Splits}
+use Rattle.plain_tables.specs.declared.meaning.Meaning.TheVariants as meaning
 use Rattle.plain_tables.specs.Reply.{reply_bytes}
 use Rattle.lab_core.specs.Headline.{IsOver}
 use Rattle.lab_session.specs.Runs.{started, answers}
+use Rattle.lab_core.proofs.Texts.{insert_means, select_means}
 use Rattle.lab_core.specs.Example.{user_app, insert_text, insert_tree, select_text, select_tree, example_requests, example_input, example_reply}
 
 -- the digits of 1, which no definition here computes
 one_digit : decimal 1 ≡ codes "1"
 one_digit = decimal_digit 1 (lit< tt)
-
-ascii : IsAscii (codes "it's")
-ascii zero = lit< tt
-ascii (suc zero) = lit< tt
-ascii (suc (suc zero)) = lit< tt
-ascii (suc (suc (suc zero))) = lit< tt
-ascii (suc (suc (suc (suc i)))) = lit< tt
-
-value_is : IsString (codes "it's")
-value_is = record { utf8 = IsUtf8-from_ascii (codes "it's") ascii; no_zero = IsText-from_test (codes "it's") refl }
-
-insert_is : IsStatement insert_tree
-insert_is = (refl, refl, record { number = 1; text = codes "it's"; shape = refl; below = lit< tt; is_string = value_is })
-
--- the canonical text, by the digits of its number
-abbrev insert_printed : List ℕ → List ℕ
-insert_printed one = codes "INSERT INTO notes (id, body) VALUES (" ++ (((one ++ codes ", ") ++ codes "'it''s'") ++ codes ")")
-
-insert_spelled : Spells insert_text insert_tree
-insert_spelled = subst (λ one. Spells (insert_printed one) insert_tree) one_digit (canon_spells insert_tree insert_is)
-
-select_spelled : Spells select_text select_tree
-select_spelled = canon_spells select_tree (refl, (inr refl, refl))
 
 named : user_app.name ≢ []
 named e = absurd cc
@@ -51,11 +25,11 @@ named e = absurd cc
 opens_said : IsSaid Phase.Opening (Request.Opens (user_app ∷ []))
 opens_said = (((named, (IsText-from_test (codes "user") refl, IsText-from_test (codes "app") refl)), tt), (refl, lit≤ tt, lit≤ tt))
 
-insert_asked : IsAsked insert_text insert_tree
-insert_asked = record { no_zero = IsText-from_test insert_text refl; short = lit≤ tt; spelled = insert_spelled; strings = refl }
+insert_asked : IsQuery insert_text (meaning.Serves insert_tree)
+insert_asked = record { no_zero = IsText-from_test insert_text refl; framed = (refl, lit≤ tt, lit≤ tt); means = insert_means }
 
-select_asked : IsAsked select_text select_tree
-select_asked = record { no_zero = IsText-from_test select_text refl; short = lit≤ tt; spelled = select_spelled; strings = refl }
+select_asked : IsQuery select_text (meaning.Serves select_tree)
+select_asked = record { no_zero = IsText-from_test select_text refl; framed = (refl, lit≤ tt, lit≤ tt); means = select_means }
 
 example_said : AreSaid Phase.Opening example_requests
 example_said = (opens_said, (insert_asked, (select_asked, (tt, tt))))

@@ -151,28 +151,15 @@ fn refused_statements(rt: HostRuntime) -> Result<(), Fail> {
     let started = &REPLIES[..90];
     let inserted = &REPLIES[90..112];
     let selected = &REPLIES[112..];
-    let columns = &REPLIES[112..142];
-    let none: &[u8] = b"C\x00\x00\x00\x0dSELECT 0\x00Z\x00\x00\x00\x05I";
     let insert = &REQUESTS[18..72];
-    // The empty text, two statements, bytes that are no text.
-    let empty: &[u8] = b"Q\x00\x00\x00\x05\x00";
-    let two: &[u8] = b"Q\x00\x00\x00\x1cSELECT body FROM notes;\x00";
-    let no_text: &[u8] = b"Q\x00\x00\x00\x07\xff\xfe\x00";
     let unknown = framed(51, FrameFault::UnknownType(122));
-    let cases: [(&[&[u8]], Status, &[&[u8]]); 7] = [
+    let cases: [(&[&[u8]], Status, &[&[u8]]); 4] = [
         (&[STARTUP, CREATE], Status::Done, &[started, REFUSED]),
         (
-            &[STARTUP, empty, SELECT],
-            Status::Done,
-            &[started, REFUSED, columns, none],
-        ),
-        (
-            &[STARTUP, CREATE, insert, two, SELECT, TERMINATE],
+            &[STARTUP, CREATE, insert, CREATE, SELECT, TERMINATE],
             Status::Done,
             &[started, REFUSED, inserted, REFUSED, selected],
         ),
-        (&[STARTUP, two], Status::Done, &[started, REFUSED]),
-        (&[STARTUP, no_text], Status::Done, &[started, REFUSED]),
         // The offsets count from the first byte of the stream.
         (&[STARTUP, CREATE, b"z"], unknown, &[started, REFUSED]),
         (
@@ -183,6 +170,125 @@ fn refused_statements(rt: HostRuntime) -> Result<(), Fail> {
     ];
     'cases: for (parts, end, replies) in cases {
         try_one(&rt, rt.alloc(), parts, end, replies)?;
+    }
+    Ok(())
+}
+
+/// Texts without a statement, and what follows them.
+#[test]
+fn empty_queries(rt: HostRuntime) -> Result<(), Fail> {
+    let started = &REPLIES[..90];
+    let columns = &REPLIES[112..142];
+    let none: &[u8] = b"C\x00\x00\x00\x0dSELECT 0\x00Z\x00\x00\x00\x05I";
+    let empty: &[u8] = b"Q\x00\x00\x00\x05\x00";
+    let semicolon: &[u8] = b"Q\x00\x00\x00\x06;\x00";
+    let comment: &[u8] = b"Q\x00\x00\x00\x0b-- all\x00";
+    let reply: &[u8] = b"I\x00\x00\x00\x04Z\x00\x00\x00\x05I";
+    try_one(
+        &rt,
+        rt.alloc(),
+        &[STARTUP, empty, semicolon, comment, SELECT],
+        Status::Done,
+        &[started, reply, reply, reply, columns, none],
+    )
+}
+
+/// Other spellings of the statements that are served.
+#[test]
+fn other_spellings(rt: HostRuntime) -> Result<(), Fail> {
+    let alloc = rt.alloc();
+    let selects: [&[u8]; 5] = [
+        b"SELECT body FROM notes;",
+        b"select BODY from Notes -- all",
+        b"SELECT \"body\" FROM \"notes\"",
+        b"SELECT notes.body/* /* */ */FROM notes",
+        b"\tSELECT\nbody\rFROM\x0cnotes ",
+    ];
+    let inserts: [&[u8]; 3] = [
+        b"INSERT INTO notes VALUES (+1, 'it''s');",
+        b"insert into \"notes\" (\"id\", BODY) values (001, 'it''s')",
+        b"INSERT INTO notes VALUES (9223372036854775807, 'it''s')",
+    ];
+    'selects: for select in selects {
+        let sent = one_query(alloc, select)?;
+        assert!(rt; sent.starts_with(&REPLIES[112..142]), "at {select:?}");
+    }
+    'inserts: for insert in inserts {
+        let sent = one_query(alloc, insert)?;
+        assert_eq!(rt; sent.as_slice(), &REPLIES[90..112], "at {insert:?}");
+    }
+    Ok(())
+}
+
+/// Statements that the profile leaves out, and those of the profile that are not served.
+#[test]
+fn unserved_statements(rt: HostRuntime) -> Result<(), Fail> {
+    let alloc = rt.alloc();
+    let texts: [&[u8]; 17] = [
+        b"CREATE TABLE t (a int)",
+        b"BEGIN; SELEC",
+        b"SET names = 'a'",
+        b"SET application_name = 'a'",
+        b"DELETE FROM notes",
+        b"UPDATE notes SET body = 'a'",
+        b"SELECT * FROM notes",
+        b"SELECT body FROM mail",
+        b"SELECT mail FROM notes",
+        b"SELECT body AS text FROM notes",
+        b"SELECT body FROM notes ORDER BY id",
+        b"SELECT body FROM notes WHERE id = 1",
+        b"SELECT body FROM notes LIMIT 1",
+        b"INSERT INTO notes (body, id) VALUES (1, 'a')",
+        b"INSERT INTO notes VALUES (-1, 'a')",
+        b"INSERT INTO notes VALUES (9223372036854775808, 'a')",
+        b"INSERT INTO notes VALUES (1, 'a'), (2, 'b')",
+    ];
+    'texts: for text in texts {
+        let sent = one_query(alloc, text)?;
+        assert_eq!(rt; sent.as_slice(), REFUSED, "at {text:?}");
+    }
+    Ok(())
+}
+
+/// Texts that spell no statement: at the first token, at bytes that are no text, inside, at the end.
+#[test]
+fn misspelled_texts(rt: HostRuntime) -> Result<(), Fail> {
+    let alloc = rt.alloc();
+    let cases: [(&[u8], &[u8]); 4] = [
+        (b"SELEC 1", b"0"),
+        (b"\xff\xfe", b"0"),
+        (b"SELECT body FROM notes;;", b"23"),
+        (b"SELECT body FROM notes WHERE (id = 1", b"36"),
+    ];
+    'cases: for (text, place) in cases {
+        let message = joined(alloc, &[b"AcraServer: not in the profile at byte ", place])?;
+        let want = refused(alloc, b"42601", &message)?;
+        let sent = one_query(alloc, text)?;
+        assert_eq!(rt; sent.as_slice(), want.as_slice(), "at {text:?}");
+    }
+    Ok(())
+}
+
+#[test]
+fn nesting(rt: HostRuntime) -> Result<(), Fail> {
+    let alloc = rt.alloc();
+    let unserved = Vec::from_slice(alloc, REFUSED)?;
+    let deep = refused(alloc, b"54000", b"AcraServer: nesting too deep")?;
+    'counts: for count in [128, 129] {
+        let mut text = Vec::from_slice(alloc, b"SELECT body FROM notes WHERE ")?;
+        'open: for _ in 0..count {
+            text.push(b'(')?;
+        }
+        text.extend_from_slice(b"id = 1")?;
+        'close: for _ in 0..count {
+            text.push(b')')?;
+        }
+        let want = if count == 128 { &unserved } else { &deep };
+        assert_eq!(rt;
+            one_query(alloc, &text)?.as_slice(),
+            want.as_slice(),
+            "at {count}"
+        );
     }
     Ok(())
 }

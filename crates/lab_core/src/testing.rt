@@ -122,3 +122,32 @@ pub fn joined(alloc: Global, parts: &[&[u8]]) -> Result<Vec<u8>, Fail> {
     }
     Ok(bytes)
 }
+
+/// What is sent for a text: the replies behind that to the startup message.
+pub fn one_query(alloc: Global, text: &[u8]) -> Result<Vec<u8>, Fail> {
+    let mut input = Vec::from_slice(alloc, STARTUP)?;
+    input.push(b'Q')?;
+    let length = u32::try_from(text.len())?.wrapping_add(5);
+    input.extend_from_slice(&length.to_be_bytes())?;
+    input.extend_from_slice(text)?;
+    input.push(0)?;
+    let (_, sent) = session(alloc, &mut SureLink::new(alloc, input))?;
+    Ok(Vec::from_slice(alloc, sent.get(90..).unwrap_or(b""))?)
+}
+
+/// An ErrorResponse of this code and message, and ReadyForQuery.
+pub fn refused(alloc: Global, code: &[u8], message: &[u8]) -> Result<Vec<u8>, Fail> {
+    let length = u32::try_from(message.len())?.wrapping_add(28);
+    joined(
+        alloc,
+        &[
+            b"E",
+            &length.to_be_bytes(),
+            b"SERROR\x00VERROR\x00C",
+            code,
+            b"\x00M",
+            message,
+            b"\x00\x00Z\x00\x00\x00\x05I",
+        ],
+    )
+}

@@ -1,6 +1,9 @@
 -- What is shown of the backend's reply is the reply of the plaintext tables.
-use Rattle.std.proofs.Common.{◌≡◌, ℕ, ◌^◌, ◌≤◌, inl, inr, ◌&&◌, Bool, true, false, List, [], ◌∷◌, ◌++◌, length, map, codes, Option, Some, Result, Ok, Err, refl, sym, ap, subst, ◌∙◌, arith}
+use Rattle.std.proofs.Common.{◌≡◌, ℕ, ◌^◌, ◌≤◌, ◌<◌, ltb, inl, inr, ◌&&◌, Bool, true, false, List, [], ◌∷◌, ◌++◌, length, map, codes, Option, Some, Result, Ok, Err, refl, sym, ap, subst, ◌∙◌, arith}
 use Rattle.std.specs.Result.{result_ok}
+use Rattle.std.specs.Fmt.{decimal}
+use Rattle.std.specs.List.{list_all}
+use Rattle.std.proofs.lemmas.Fmt.{length-decimal-le}
 use Rattle.std.proofs.lemmas.List.{length-append}
 use Rattle.rand_chacha.specs.ChaCha.{ChaCha}
 use Rattle.hex.specs.Hex.{IsBytes}
@@ -11,6 +14,7 @@ use Rattle.pg_wire.specs.declared.front.Pair.{Pair}
 use Rattle.pg_wire.specs.declared.front.Front.{Front}
 use Rattle.pg_wire.specs.declared.front.Front.TheVariants as fronts
 use Rattle.pg_wire.specs.declared.back.Back.{Back}
+use Rattle.pg_wire.specs.declared.back.Back.TheVariants as backs
 use Rattle.pg_wire.specs.declared.frame.Side.TheVariants as side
 use Rattle.pg_wire.specs.Backs.{back_frame}
 use Rattle.pg_wire.specs.Frames.{IsFrame, asks_encryption}
@@ -20,13 +24,16 @@ use Rattle.sql_profile.specs.Tree.{IsStatement}
 use Rattle.sql_profile.proofs.Printed.{canon_spells}
 use Rattle.table_machine.specs.declared.cell.Cell.{Cell}
 use Rattle.table_machine.specs.Stored.{bytea_of, bytea_text}
-use Rattle.table_machine.specs.Replies.{IsWritable, messages_of, startup_messages, ready}
-use Rattle.table_machine.proofs.Texts.{IsText-from_test}
+use Rattle.table_machine.specs.Replies.{IsWritable, messages_of, startup_messages, error_of, ready}
+use Rattle.table_machine.proofs.Texts.{IsText-from_test, IsText-tag}
 use Rattle.table_machine.proofs.Told.{error-writable}
 use Rattle.table_machine.specs.Backend.{Lab, Answers, executed, rows_executed}
 use Rattle.plain_tables.specs.declared.encryption.Encryption.{Encryption}
-use Rattle.plain_tables.specs.Refusals.{not_in_profile}
-use Rattle.plain_tables.specs.Requests.{Request, has_short_strings, message_limit}
+use Rattle.plain_tables.specs.declared.refusal.Refusal.{Refusal}
+use Rattle.plain_tables.specs.declared.refusal.Refusal.TheVariants as causes
+use Rattle.plain_tables.specs.Refusals.{refusal_code, refusal_text, refusal_message}
+use Rattle.plain_tables.specs.Requests.{Request, message_limit}
+use Rattle.plain_tables.specs.Meanings.{has_short_strings}
 use Rattle.plain_tables.specs.Reply.{reply_bytes}
 use Rattle.plain_tables.specs.Rewritten.{rewritten, protected_of}
 use Rattle.plain_tables.specs.Standing.{stored_rows, StandFor}
@@ -190,8 +197,9 @@ answered_alone keys s lab awaits r (Err e) g old new es ea rests eg sent = recor
 pub declined : {T E : Type 0} (keys : Key) (s : State) (lab : Lab) (awaits : Bool) (how : Encryption) (result : Result T E) (g : ChaCha) (old new : Option (List ℕ)) → Rests keys lab s awaits → g ≡ s.coming → Sends old new result (78 ∷ []) → AnswerGives keys awaits s (Request.Encrypts how) result g lab old new
 declined keys s lab awaits how result g old new rests eg sent = answered_alone keys s lab awaits (Request.Encrypts how) result g old new refl (opening_of awaits) rests eg sent
 
-pub refused : {T E : Type 0} (keys : Key) (s : State) (lab : Lab) (awaits : Bool) (text : List ℕ) (result : Result T E) (g : ChaCha) (old new : Option (List ℕ)) → Rests keys lab s awaits → g ≡ s.coming → Sends old new result (reply_bytes (not_in_profile ∷ ready ∷ [])) → AnswerGives keys awaits s (Request.Refused text) result g lab old new
-refused keys s lab awaits text result g old new rests eg sent = answered_alone keys s lab awaits (Request.Refused text) result g old new refl (opening_of awaits) rests eg sent
+-- the reply to a text that is answered by one message
+abbrev pub alone : Back → List ℕ
+alone message = reply_bytes (message ∷ ready ∷ [])
 
 -- ---- the answers, by what was said
 
@@ -203,17 +211,39 @@ startup_given keys s lab text what params result g lab' old new e can rests eg f
     subst (λ (w : Said). AnswerGives keys lab.stream.opening s (request_of text w) result g lab' old new) (sym e)
     (subst (λ (b : Bool). AnswerGives keys b s (Request.Opens params) result g lab' old new) (sym here.0) given)
 
-pub refused_given : {T E : Type 0} (keys : Key) (s : State) (lab : Lab) (text : List ℕ) (what : Said) (result : Result T E) (g : ChaCha) (old new : Option (List ℕ)) → what ≡ said.Refused → Rests keys lab s lab.stream.opening → g ≡ s.coming → Sends old new result (reply_bytes (not_in_profile ∷ ready ∷ []))
-    → AnswerGives keys lab.stream.opening s (request_of text what) result g lab old new
-refused_given keys s lab text what result g old new e rests eg sent =
-    subst (λ (w : Said). AnswerGives keys lab.stream.opening s (request_of text w) result g lab old new) (sym e) (refused keys s lab lab.stream.opening text result g old new rests eg sent)
+pub refused_given : {T E : Type 0} (keys : Key) (s : State) (lab : Lab) (text : List ℕ) (what : Said) (cause : Refusal) (result : Result T E) (g : ChaCha) (old new : Option (List ℕ)) → what ≡ said.Refused cause → Rests keys lab s lab.stream.opening → g ≡ s.coming
+    → Sends old new result (alone (refusal_message cause)) → AnswerGives keys lab.stream.opening s (request_of text what) result g lab old new
+refused_given keys s lab text what cause result g old new e rests eg sent =
+    subst (λ (w : Said). AnswerGives keys lab.stream.opening s (request_of text w) result g lab old new) (sym e)
+    (answered_alone keys s lab lab.stream.opening (Request.Refused text cause) result g old new refl (opening_of lab.stream.opening) rests eg sent)
 
-pub refusal_writable : IsWritable not_in_profile
-refusal_writable =
-    let code = codes "0A000" in
-    let text = codes "AcraServer: statement not in the profile" in
-    error-writable code text (IsText-from_test code refl) (IsText-from_test text refl) (omega arith) (omega arith)
+pub empty_given : {T E : Type 0} (keys : Key) (s : State) (lab : Lab) (text : List ℕ) (what : Said) (result : Result T E) (g : ChaCha) (old new : Option (List ℕ)) → what ≡ said.Empties → Rests keys lab s lab.stream.opening → g ≡ s.coming
+    → Sends old new result (alone backs.EmptyQuery) → AnswerGives keys lab.stream.opening s (request_of text what) result g lab old new
+empty_given keys s lab text what result g old new e rests eg sent =
+    subst (λ (w : Said). AnswerGives keys lab.stream.opening s (request_of text w) result g lab old new) (sym e)
+    (answered_alone keys s lab lab.stream.opening (Request.Empties text) result g old new refl (opening_of lab.stream.opening) rests eg sent)
 
--- the bytes of a refusal, as they are appended
-pub refusal_bytes : (start error all : List ℕ) → start ≡ [] → error ≡ start ++ back_frame not_in_profile → all ≡ error ++ back_frame ready → all ≡ reply_bytes (not_in_profile ∷ ready ∷ [])
-refusal_bytes start error all es ee ea = ea ∙ ap (λ (xs : List ℕ). xs ++ back_frame ready) (ee ∙ ap (λ (xs : List ℕ). xs ++ back_frame not_in_profile) es)
+written_out : (code text : List ℕ) → list_all (ltb 0) code ≡ true → list_all (ltb 0) text ≡ true → length code ≤ 5 → length text ≤ 100 → IsWritable (error_of code text)
+written_out code text c t short few = error-writable code text (IsText-from_test code c) (IsText-from_test text t) (omega (arith, short)) (omega (arith, few))
+
+pub long_writable : IsWritable (refusal_message causes.TooLong)
+long_writable = written_out (codes "54000") (codes "AcraServer: query text too long") refl refl (omega arith) (omega arith)
+
+pub unserved_writable : IsWritable (refusal_message causes.NotServed)
+unserved_writable = written_out (codes "0A000") (codes "AcraServer: statement not in the profile") refl refl (omega arith) (omega arith)
+
+pub deep_writable : IsWritable (refusal_message causes.TooDeep)
+deep_writable = written_out (codes "54000") (codes "AcraServer: nesting too deep") refl refl (omega arith) (omega arith)
+
+pub place_writable : (place : ℕ) → place < 2 ^ 32 → IsWritable (refusal_message (causes.Misspelled place))
+place_writable place h =
+    let front = codes "AcraServer: not in the profile at byte " in
+    let short : length (decimal place) ≤ 10 = length-decimal-le 10 place (omega arith) (omega (arith, h)) (omega (arith, h)) in
+    error-writable (codes "42601") (front ++ decimal place) (IsText-from_test (codes "42601") refl) (IsText-tag front place refl (omega (arith, h))) (omega arith) (omega (arith, short, length-append front (decimal place)))
+
+pub error_is : (cause : Refusal) (code text : List ℕ) → code ≡ refusal_code cause → text ≡ refusal_text cause → error_of code text ≡ refusal_message cause
+error_is cause code text c t = λ i. error_of (c i) (t i)
+
+-- the bytes of one message, as they are appended
+pub alone_bytes : (message : Back) (start first all : List ℕ) → start ≡ [] → first ≡ start ++ back_frame message → all ≡ first ++ back_frame ready → all ≡ alone message
+alone_bytes message start first all es ef ea = ea ∙ ap (λ (xs : List ℕ). xs ++ back_frame ready) (ef ∙ ap (λ (xs : List ℕ). xs ++ back_frame message) es)

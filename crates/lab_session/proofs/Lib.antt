@@ -9,4 +9,5 @@ pub mod Forwarded
 pub mod Drawing
 pub mod Meant
 pub mod Positive
+pub mod Meaning
 pub mod AnswerLaws

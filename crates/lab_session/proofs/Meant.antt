@@ -13,7 +13,7 @@ use Rattle.sql_profile.specs.declared.statement.Statement.{Statement}
 use Rattle.sql_profile.specs.declared.statement.Statement.TheVariants as statement
 use Rattle.sql_profile.specs.Tree.{IsStatement, AreValues}
 use Rattle.table_machine.specs.Machine.{rows_after}
-use Rattle.plain_tables.specs.Requests.{string_limit, is_short_value, has_short_strings}
+use Rattle.plain_tables.specs.Meanings.{string_limit, is_short_value, has_short_strings}
 use Rattle.plain_tables.specs.Plain.{PlainCell, plain_row, plain_action}
 use Rattle.plain_tables.specs.Standing.{IsMeant}
 use Rattle.acra_block.specs.Keys.{Key}

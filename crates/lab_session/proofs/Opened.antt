@@ -13,7 +13,7 @@ use Rattle.acra_block.specs.declared.keys.LiveKey.{LiveKey}
 use Rattle.acra_block.specs.Keys.{Key, key_of}
 use Rattle.acra_block.proofs.Sealed.{cell_opens}
 use Rattle.acra_block.proofs.Spelled.{sealed_parts}
-use Rattle.plain_tables.specs.Requests.{string_limit}
+use Rattle.plain_tables.specs.Meanings.{string_limit}
 use Rattle.table_machine.specs.Stored.{bytea_text}
 use Rattle.plain_tables.specs.Plain.{PlainCell}
 use Rattle.plain_tables.specs.Standing.{IsMeant}

@@ -15,13 +15,17 @@ use Rattle.pg_wire.specs.Frames.{frame_bytes, IsFrame, HasFault, IsUnfinished}
 use Rattle.pg_wire.specs.Streams.{Stream, behind, GivesFrame, Gives}
 use Rattle.pg_wire.specs.Fronts.{IsFront, str, front_kind, front_body}
 use Rattle.pg_wire.specs.Reading.{SpellsFront}
-use Rattle.sql_profile.specs.declared.statement.Statement.{Statement}
 use Rattle.plain_tables.specs.declared.encryption.Encryption.{Encryption}
 use Rattle.plain_tables.specs.declared.encryption.Encryption.TheVariants as encryption
-use Rattle.plain_tables.specs.Requests.{Request, is_opening, IsSaid, IsAsked, asking, message_of, message_limit}
+use Rattle.plain_tables.specs.declared.meaning.Meaning.{Meaning}
+use Rattle.plain_tables.specs.declared.meaning.Meaning.TheVariants as meaning
+use Rattle.plain_tables.specs.Meanings.{Means}
+use Rattle.plain_tables.specs.Requests.{Request, Phase, is_opening, IsQuery, IsSaid, asking, message_of, message_limit}
 use Rattle.plain_tables.specs.BadMessages.{StandsFirst, is_placed, IsBad}
 use Rattle.lab_session.specs.Understood.{IsUnderstood}
-use Rattle.lab_session.specs.Answering.{phase_of, Takes, NextGives}
+use Rattle.plain_tables.proofs.Meant.{served_is}
+use Rattle.lab_session.specs.Answering.{phase_of, request_of, Takes, NextGives, CanAnswer}
+use Rattle.lab_session.specs.declared.said.Said.{Said}
 use Rattle.lab_session.specs.declared.said.Said.TheVariants as said
 use Rattle.lab_session.specs.declared.said.Next.{Next}
 use Rattle.lab_session.specs.declared.said.Next.TheVariants as next
@@ -67,13 +71,10 @@ opens_placed : (opening : Bool) (params : List Pair) → IsFront (fronts.Startup
 opens_placed true params is f = (is, f)
 opens_placed false params is f = let t : false ≡ true = f.0 in absurd cc
 
-asks_placed : (opening : Bool) (text : List ℕ) (tree : Statement) → IsAsked text tree → IsFrame side.Client message_limit opening 81 (str text) → IsSaid (phase_of opening) (Request.Asks text tree)
-asks_placed true text tree is f = absurd (omega (arith, f.0))
-asks_placed false text tree is f = is
-
-refused_placed : (opening : Bool) (text : List ℕ) → IsFront (fronts.Query text) → ((tree : Statement) → IsAsked text tree → ⊥) → IsFrame side.Client message_limit opening 81 (str text) → IsSaid (phase_of opening) (Request.Refused text)
-refused_placed true text is none f = absurd (omega (arith, f.0))
-refused_placed false text is none f = record { no_zero = is; framed = f; none = none }
+-- a text stands in a frame behind the startup message alone
+query_placed : (opening : Bool) (text : List ℕ) (what : Meaning) (r : Request) → (IsQuery text what → IsSaid Phase.Serving r) → IsFront (fronts.Query text) → Means text what → IsFrame side.Client message_limit opening 81 (str text) → IsSaid (phase_of opening) r
+query_placed true text what r placed is means f = absurd (omega (arith, f.0))
+query_placed false text what r placed is means f = placed (record { no_zero = is; framed = f; means = means })
 
 leaves_placed : (opening : Bool) → IsFrame side.Client message_limit opening 88 [] → IsSaid (phase_of opening) Request.Leaves
 leaves_placed true f = absurd (omega (arith, f.0))
@@ -111,9 +112,11 @@ next_gives E s t frame (next.Said (said.Encrypts how)) ew el gives h =
 next_gives E s t frame (next.Said (said.Opens params)) ew el gives h =
     ([], taken s t frame (Request.Opens params) gives h.1 h.2 (opens_placed s.opening params h.0 (frame_of s t frame (fronts.Startup params) ew el gives h.1 h.2)))
 next_gives E s t frame (next.Said (said.Asks tree)) ew el gives h =
-    (h.0, taken s t frame (Request.Asks h.0 tree) gives h.1.1 h.1.2 (asks_placed s.opening h.0 tree h.2 (frame_of s t frame (fronts.Query h.0) ew el gives h.1.1 h.1.2)))
-next_gives E s t frame (next.Said said.Refused) ew el gives h =
-    (h.0, taken s t frame (Request.Refused h.0) gives h.1.1 h.1.2 (refused_placed s.opening h.0 h.1.0 h.2 (frame_of s t frame (fronts.Query h.0) ew el gives h.1.1 h.1.2)))
+    (h.0, taken s t frame (Request.Asks h.0 tree) gives h.1.1 h.1.2 (query_placed s.opening h.0 (meaning.Serves tree) (Request.Asks h.0 tree) (λ q. q) h.1.0 h.2 (frame_of s t frame (fronts.Query h.0) ew el gives h.1.1 h.1.2)))
+next_gives E s t frame (next.Said said.Empties) ew el gives h =
+    (h.0, taken s t frame (Request.Empties h.0) gives h.1.1 h.1.2 (query_placed s.opening h.0 meaning.Nothing (Request.Empties h.0) (λ q. q) h.1.0 h.2 (frame_of s t frame (fronts.Query h.0) ew el gives h.1.1 h.1.2)))
+next_gives E s t frame (next.Said (said.Refused cause)) ew el gives h =
+    (h.0, taken s t frame (Request.Refused h.0 cause) gives h.1.1 h.1.2 (query_placed s.opening h.0 (meaning.Refused cause) (Request.Refused h.0 cause) (λ q. q) h.1.0 h.2 (frame_of s t frame (fronts.Query h.0) ew el gives h.1.1 h.1.2)))
 next_gives E s t frame next.Leaves ew el gives h = taken s t frame Request.Leaves gives h.1 h.2 (leaves_placed s.opening (frame_of s t frame fronts.Terminate ew el gives h.1 h.2))
 next_gives E s t frame (next.Bad offset (message.Frame fault)) ew el gives h = absurd h
 next_gives E s t frame (next.Bad offset message.Body) ew el gives h = (h.0 ∙ gives.place, (frame.kind, frame.body, stands s t frame ew el gives, h.1))
@@ -126,3 +129,16 @@ next_gives E s t frame next.Waiting ew el gives h = absurd h
 pub frame_gives : (E : Type 0) (s t : Stream) (frame : Frame) (result : Result Next E) → s.who ≡ side.Client → s.limit ≡ message_limit → GivesFrame s frame t → IfOk result (IsUnderstood frame.offset frame.kind frame.body) → NextGives {E = E} s result t
 frame_gives E s t frame (Ok n) ew el gives h = next_gives E s t frame n ew el gives h
 frame_gives E s t frame (Err e) ew el gives h = tt
+
+-- what was said in its place may be answered
+pub can_said : (opening : Bool) (text : List ℕ) (what : Said) → IsSaid (phase_of opening) (request_of text what) → CanAnswer opening what
+can_said true text (said.Encrypts how) h = refl
+can_said true text (said.Opens params) h = (refl, h.0, h.1)
+can_said true text (said.Asks tree) h = absurd h
+can_said true text said.Empties h = absurd h
+can_said true text (said.Refused cause) h = absurd h
+can_said false text (said.Encrypts how) h = absurd h
+can_said false text (said.Opens params) h = absurd h
+can_said false text (said.Asks tree) h = let s = served_is text tree h.means in (refl, s.0, s.1)
+can_said false text said.Empties h = refl
+can_said false text (said.Refused cause) h = refl

@@ -82,17 +82,20 @@ awaits : (p : Phase) (r : Request) → IsSaid p r → (is_opening p && asks_encr
 awaits Phase.Opening (Request.Encrypts how) h = asking_stays how
 awaits Phase.Opening (Request.Opens params) h = startup_ends params
 awaits Phase.Opening (Request.Asks text tree) h = absurd h
-awaits Phase.Opening (Request.Refused text) h = absurd h
+awaits Phase.Opening (Request.Empties text) h = absurd h
+awaits Phase.Opening (Request.Refused text cause) h = absurd h
 awaits Phase.Opening Request.Leaves h = absurd h
 awaits Phase.Serving (Request.Encrypts how) h = refl
 awaits Phase.Serving (Request.Opens params) h = refl
 awaits Phase.Serving (Request.Asks text tree) h = refl
-awaits Phase.Serving (Request.Refused text) h = refl
+awaits Phase.Serving (Request.Empties text) h = refl
+awaits Phase.Serving (Request.Refused text cause) h = refl
 awaits Phase.Serving Request.Leaves h = refl
 awaits Phase.Over (Request.Encrypts how) h = refl
 awaits Phase.Over (Request.Opens params) h = refl
 awaits Phase.Over (Request.Asks text tree) h = refl
-awaits Phase.Over (Request.Refused text) h = refl
+awaits Phase.Over (Request.Empties text) h = refl
+awaits Phase.Over (Request.Refused text cause) h = refl
 awaits Phase.Over Request.Leaves h = refl
 
 serving_not_over : Phase.Serving ≢ Phase.Over
@@ -106,7 +109,8 @@ goes_on : (p : Phase) (text : List ℕ) (what : Said) → p ≢ Phase.Over → p
 goes_on p text (said.Encrypts how) n = n
 goes_on p text (said.Opens params) n = serving_not_over
 goes_on p text (said.Asks tree) n = n
-goes_on p text said.Refused n = n
+goes_on p text said.Empties n = n
+goes_on p text (said.Refused cause) n = n
 
 small_sum : (n : ℕ) → n ≤ 2 ^ 48 → n % 2 ^ 64 ≡ n
 small_sum n h = omega arith

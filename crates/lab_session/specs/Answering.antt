@@ -9,7 +9,8 @@ use Rattle.pg_wire.specs.declared.frame.Side.TheVariants as side
 use Rattle.pg_wire.specs.Fronts.{IsFront, front_kind, front_body}
 use Rattle.sql_profile.specs.Tree.{IsStatement}
 use Rattle.table_machine.specs.Backend.{Lab}
-use Rattle.plain_tables.specs.Requests.{Request, Phase, phase_after, is_opening, IsSaid, message_of, request_bytes, message_limit, has_short_strings}
+use Rattle.plain_tables.specs.Requests.{Request, Phase, phase_after, is_opening, IsSaid, message_of, request_bytes, message_limit}
+use Rattle.plain_tables.specs.Meanings.{has_short_strings}
 use Rattle.plain_tables.specs.BadMessages.{IsBad}
 use Rattle.plain_tables.specs.Standing.{StandFor}
 use Rattle.acra_block.specs.Keys.{Key}
@@ -31,7 +32,8 @@ abbrev pub request_of : List ℕ → Said → Request
 request_of text (said.Encrypts how) = Request.Encrypts how
 request_of text (said.Opens params) = Request.Opens params
 request_of text (said.Asks tree) = Request.Asks text tree
-request_of text said.Refused = Request.Refused text
+request_of text said.Empties = Request.Empties text
+request_of text (said.Refused cause) = Request.Refused text cause
 
 -- before the startup message, or after it
 abbrev pub phase_of : Bool → Phase
@@ -79,7 +81,8 @@ abbrev pub CanAnswer : Bool → Said → Type 0
 CanAnswer opening (said.Encrypts how) = opening ≡ true
 CanAnswer opening (said.Opens params) = (opening ≡ true) × IsFront (fronts.Startup params) × IsFrame side.Client message_limit true 0 (front_body (fronts.Startup params))
 CanAnswer opening (said.Asks tree) = (opening ≡ false) × IsStatement tree × (has_short_strings tree ≡ true)
-CanAnswer opening said.Refused = opening ≡ false
+CanAnswer opening said.Empties = opening ≡ false
+CanAnswer opening (said.Refused cause) = opening ≡ false
 
 -- the request was executed and its reply sent
 pub record Answered (keys : Key) (awaits : Bool) (s : State) (r : Request) (g : ChaCha) (lab : Lab) (old new : Option (List ℕ)) : Type 0 where

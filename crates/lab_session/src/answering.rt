@@ -3,7 +3,7 @@ ghost use Rattle.acra_base.specs.Causes.{Rose};
 ghost use Rattle.sql_profile.specs.Tree.{IsStatement};
 ghost use Rattle.table_machine.specs.Replies.{ready};
 ghost use Rattle.plain_tables.specs.Reply.{reply_bytes};
-ghost use Rattle.plain_tables.specs.Refusals.{not_in_profile};
+ghost use Rattle.pg_wire.specs.declared.back.Back.TheVariants.{EmptyQuery};
 ghost use Rattle.lab_session.specs.Cells.{IsUsable, own_view};
 ghost use Rattle.lab_session.specs.Session.{Rests};
 ghost use Rattle.lab_session.specs.Relaying.{IsIdle, Sends};
@@ -13,20 +13,16 @@ ghost use Rattle.lab_session.specs.declared.said.Said.TheVariants as said_as;
 
 use crate::forward::forward;
 use crate::planning::plan_for;
+use crate::refusing::refuse;
 use crate::said::Said;
 use crate::send::send;
 use crate::stop::Stop;
 use acra_base::{Sink, SureRandom};
 use acra_block::{KeyView, OwnerKey};
-use pg_wire::Front;
+use pg_wire::{Back, Front, write_back};
 use sql_profile::Statement;
 use std::alloc::Global;
-use table_machine::{LabBackend, write_error, write_ready};
-
-/// The SQLSTATE code feature_not_supported, and the text that goes with it.
-const UNSUPPORTED: &[u8; 5] = b"0A000";
-
-const NOT_IN_PROFILE: &[u8] = b"AcraServer: statement not in the profile";
+use table_machine::{LabBackend, write_ready};
 
 // Sends a statement on with its string sealed, and shows the reply.
 fn answer_statement<K: Sink>(
@@ -54,15 +50,15 @@ fn answer_statement<K: Sink>(
     }
 }
 
-// Refuses a text that asks no statement.
-fn refuse<K: Sink>(alloc: Global, output: &mut K) -> Result<(), Stop>
-    ensures sent { Sends (K.held output.old) (K.held output.new) result (reply_bytes (not_in_profile ∷ ready ∷ [])) }
+// Answers a text that has no statement.
+fn answer_nothing<K: Sink>(alloc: Global, output: &mut K) -> Result<(), Stop>
+    ensures sent { Sends (K.held output.old) (K.held output.new) result (reply_bytes (EmptyQuery ∷ ready ∷ [])) }
     ensures later { K.write_faults output.old ≤ K.write_faults output.new }
     ensures fault { IsErrOf result Stop.WriteFault → Rose (K.write_faults output.old) (K.write_faults output.new) }
     ensures no_read { IsErrOf result Stop.ReadFault → ⊥ }
 {
     let mut reply = Vec::new(alloc);
-    write_error(alloc, UNSUPPORTED, NOT_IN_PROFILE, &mut reply)?;
+    write_back(&Back::EmptyQuery, &mut reply)?;
     write_ready(&mut reply)?;
     send(output, &reply)
 }
@@ -94,6 +90,7 @@ pub fn answer<K: Sink>(
             forward(alloc, view, backend, output, &request, &[])
         }
         Said::Asks(tree) => answer_statement(alloc, key, view, random, backend, output, tree),
-        Said::Refused => refuse(alloc, output),
+        Said::Empties => answer_nothing(alloc, output),
+        Said::Refused(cause) => refuse(alloc, cause, output),
     }
 }

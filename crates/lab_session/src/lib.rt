@@ -5,9 +5,12 @@
 mod answering;
 mod forward;
 mod key;
+mod meanings;
+mod narrowing;
 mod opening;
 mod plan;
 mod planning;
+mod refusing;
 mod relay;
 mod rewriting;
 mod said;

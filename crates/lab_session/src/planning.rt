@@ -1,6 +1,6 @@
 ghost use Rattle.std.specs.Prelude.{◌≡◌, true, IfOk};
 ghost use Rattle.sql_profile.specs.Tree.{IsStatement};
-ghost use Rattle.plain_tables.specs.Requests.{has_short_strings};
+ghost use Rattle.plain_tables.specs.Meanings.{has_short_strings};
 ghost use Rattle.lab_session.specs.Answering.{IsPlan};
 
 use crate::plan::Plan;

@@ -1,7 +1,7 @@
 ghost use Rattle.std.specs.Prelude.{◌≡◌, map, IfOk, OnOk, option_map, true};
 ghost use Rattle.plain_tables.specs.Rewritten.{rewritten_value, rewritten, protected_of};
 ghost use Rattle.hex.specs.Hex.{IsBytes};
-ghost use Rattle.plain_tables.specs.Requests.{has_short_strings};
+ghost use Rattle.plain_tables.specs.Meanings.{has_short_strings};
 ghost use Rattle.table_machine.specs.Stored.{bytea_text};
 ghost use Rattle.lab_session.specs.Runs.{written, written_rows, written_values, cell_for, drawn_for};
 

@@ -1,22 +1,15 @@
 ghost use Rattle.std.specs.Prelude.{◌≡◌, IfOk};
-ghost use Rattle.std.specs.List.{list_all};
 ghost use Rattle.pg_wire.specs.declared.frame.Side.TheVariants as side;
-ghost use Rattle.pg_wire.specs.Fronts.{IsText};
-ghost use Rattle.plain_tables.specs.Requests.{has_short_strings, is_short_value, message_limit};
-ghost use Rattle.lab_session.specs.Understood.{IsUnderstood, IsAskedAs};
+ghost use Rattle.plain_tables.specs.Requests.{message_limit};
+ghost use Rattle.lab_session.specs.Understood.{IsUnderstood};
 ghost use Rattle.lab_session.specs.Answering.{NextGives};
 
+use crate::meanings::text_meaning;
 use acra_base::{NoMemory, Sequence};
 use pg_wire::{Frame, Framer, Front, MessageFault, NextFault, Pair, ReadBody, read_front};
-use plain_tables::Encryption;
-use sql_profile::{Operand, ParseFault, Statement, parse};
+use plain_tables::{Encryption, Meaning, Refusal};
+use sql_profile::Statement;
 use std::alloc::Global;
-
-/// A Query's text has at most this many bytes.
-const TEXT_LIMIT: u32 = 1 << 20;
-
-/// A string in a statement has at most this many bytes.
-const STRING_LIMIT: usize = 1 << 18;
 
 /// A request of the client that is answered.
 #[derive(Debug, Drop)]
@@ -27,8 +20,10 @@ pub enum Said {
     Opens(Sequence<Pair>),
     /// A statement.
     Asks(Statement),
-    /// A text that asks no statement.
-    Refused,
+    /// A text without a statement.
+    Empties,
+    /// A text that is refused.
+    Refused(Refusal),
 }
 
 /// What stands first in the client's stream.
@@ -44,60 +39,6 @@ pub enum Next {
     Waiting,
 }
 
-fn is_short(value: &Operand) -> bool
-    ensures { result ≡ is_short_value value.now }
-{
-    match value {
-        Operand::Text(text) => text.len() <= STRING_LIMIT,
-        Operand::Number(_) => true,
-    }
-}
-
-fn are_short(values: &[Operand]) -> bool
-    ensures { result ≡ list_all is_short_value values.now }
-{
-    values.iter().all(is_short)
-}
-
-fn rows_are_short(rows: &[Sequence<Operand>]) -> bool
-    ensures { result ≡ list_all (λ row. list_all is_short_value row) rows.now }
-{
-    'rows: for row in rows {
-        if !are_short(row.as_slice()) {
-            return false;
-        }
-    }
-    true
-}
-
-// Whether each string of a statement is within its limit.
-fn has_short_strings(tree: &Statement) -> bool
-    ensures { result ≡ has_short_strings tree.now }
-{
-    match tree {
-        Statement::Select { .. } => true,
-        Statement::Insert { rows, .. } => rows_are_short(rows.as_slice()),
-    }
-}
-
-// The statement of a text, where it is in the profile and within its limits.
-fn asked(alloc: Global, text: &[u8]) -> Result<Option<Statement>, NoMemory>
-    requires { IsText text.now }
-    ensures { IfOk result (λ found. IsAskedAs text.now found) }
-{
-    match parse(alloc, text, TEXT_LIMIT) {
-        Err(ParseFault::NoMemory) => Err(NoMemory),
-        Err(ParseFault::Refused(_)) => Ok(None),
-        Ok(tree) => {
-            if has_short_strings(&tree) {
-                Ok(Some(tree))
-            } else {
-                Ok(None)
-            }
-        }
-    }
-}
-
 // What a frame asks.
 fn understood(alloc: Global, frame: &Frame) -> Result<Next, NoMemory>
     ensures { IfOk result (λ found. IsUnderstood frame.now.offset frame.now.kind frame.now.body found) }
@@ -111,9 +52,10 @@ fn understood(alloc: Global, frame: &Frame) -> Result<Next, NoMemory>
         Ok(Front::SslRequest) => Ok(Next::Said(Said::Encrypts(Encryption::Tls))),
         Ok(Front::GssRequest) => Ok(Next::Said(Said::Encrypts(Encryption::Gss))),
         Ok(Front::Startup { params }) => Ok(Next::Said(Said::Opens(params))),
-        Ok(Front::Query(text)) => match asked(alloc, text.as_slice())? {
-            Some(tree) => Ok(Next::Said(Said::Asks(tree))),
-            None => Ok(Next::Said(Said::Refused)),
+        Ok(Front::Query(text)) => match text_meaning(alloc, text.as_slice())? {
+            Meaning::Nothing => Ok(Next::Said(Said::Empties)),
+            Meaning::Serves(tree) => Ok(Next::Said(Said::Asks(tree))),
+            Meaning::Refused(cause) => Ok(Next::Said(Said::Refused(cause))),
         },
         Ok(Front::Terminate) => Ok(Next::Leaves),
         Ok(_) => Ok(Next::Bad {

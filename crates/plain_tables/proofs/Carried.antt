@@ -1,12 +1,11 @@
 -- What a rewritten statement does to the stored tables stands for what the statement does to the plaintext tables.
-use Rattle.std.proofs.Common.{ℕ, ℤ, pos, ◌≡◌, nat_eq, List, [], ◌∷◌, ◌++◌, map, Option, Some, None, option_map, refl, sym, ap, subst, ◌∙◌}
+use Rattle.std.proofs.Common.{ℕ, pos, ◌≡◌, List, [], ◌∷◌, ◌++◌, map, Option, Some, option_map, refl, sym, ap, subst, ◌∙◌}
 use Rattle.sql_profile.specs.declared.statement.Operand.{Operand}
 use Rattle.sql_profile.specs.declared.statement.Operand.TheVariants as operand
-use Rattle.sql_profile.specs.declared.statement.Items.{Items}
 use Rattle.sql_profile.specs.declared.statement.Items.TheVariants as select
 use Rattle.sql_profile.specs.declared.statement.Statement.{Statement}
 use Rattle.sql_profile.specs.declared.statement.Statement.TheVariants as statement
-use Rattle.sql_profile.specs.Tree.{IsStatement, AreRows, AreValues}
+use Rattle.sql_profile.specs.Tree.{IsStatement, AreValues}
 use Rattle.table_machine.specs.declared.cell.Cell.{Cell}
 use Rattle.table_machine.specs.declared.cell.Cell.TheVariants as cell
 use Rattle.table_machine.specs.Machine.{Action, rows_after}

@@ -1,11 +1,11 @@
 -- A bad message has one fault, which stays, and is no request.
-use Rattle.std.proofs.Common.{◌≡◌, ℕ, Bool, true, false, List, [], ◌∷◌, ◌++◌, refl, sym, ap, subst, ◌∙◌, append_assoc}
+use Rattle.std.proofs.Common.{◌≡◌, ℕ, true, false, List, ◌++◌, refl, sym, ap, ◌∙◌, append_assoc}
 use Rattle.pg_wire.specs.declared.front.Front.{Front}
 use Rattle.pg_wire.specs.declared.frame.FrameFault.{FrameFault}
 use Rattle.pg_wire.specs.declared.frame.MessageFault.{MessageFault}
 use Rattle.pg_wire.specs.declared.frame.MessageFault.TheVariants as message
 use Rattle.pg_wire.specs.declared.frame.Side.TheVariants as side
-use Rattle.pg_wire.specs.Frames.{frame_bytes, IsFrame, HasFault}
+use Rattle.pg_wire.specs.Frames.{frame_bytes, HasFault}
 use Rattle.pg_wire.specs.Fronts.{front_kind, front_body}
 use Rattle.pg_wire.proofs.FrameLaws.{one_frame, fault_is_no_frame, fault_stays, one_fault}
 use Rattle.pg_wire.proofs.OneMessage.{one_front}

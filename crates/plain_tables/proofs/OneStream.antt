@@ -9,11 +9,14 @@ use Rattle.pg_wire.specs.Fronts.{front_kind, front_body}
 use Rattle.pg_wire.proofs.FrameLaws.{one_frame}
 use Rattle.pg_wire.proofs.OneMessage.{one_front}
 use Rattle.sql_profile.specs.declared.statement.Statement.{Statement}
-use Rattle.sql_profile.specs.Grammar.{Spells}
-use Rattle.sql_profile.proofs.Unique.{one_reading}
 use Rattle.plain_tables.specs.declared.encryption.Encryption.{Encryption}
 use Rattle.plain_tables.specs.declared.encryption.Encryption.TheVariants as encryption
-use Rattle.plain_tables.specs.Requests.{Request, Phase, phase_after, phase_after_all, is_opening, IsSaid, IsAsked, AreSaid, asking, message_of, request_bytes, stream_of, NoRequest, Splits, message_limit}
+use Rattle.plain_tables.specs.declared.meaning.Meaning.{Meaning}
+use Rattle.plain_tables.specs.declared.meaning.Meaning.TheVariants as meaning
+use Rattle.plain_tables.specs.declared.refusal.Refusal.{Refusal}
+use Rattle.plain_tables.specs.Meanings.{Means}
+use Rattle.plain_tables.specs.Requests.{Request, Phase, phase_after, phase_after_all, is_opening, IsSaid, IsQuery, AreSaid, asking, message_of, request_bytes, stream_of, NoRequest, Splits, message_limit}
+use Rattle.plain_tables.proofs.Meant.{one_meaning}
 use Rattle.plain_tables.proofs.Requested.{said_frame, said_spells}
 
 abbrev params_of : Front → List Pair
@@ -34,45 +37,71 @@ asking_opens_not : (a : Encryption) (params : List Pair) → asking a ≡ fronts
 asking_opens_not encryption.Tls params e = absurd cc
 asking_opens_not encryption.Gss params e = absurd cc
 
-same_text : (t u : List ℕ) → message_of (Request.Refused t) ≡ message_of (Request.Refused u) → t ≡ u
+same_text : (t u : List ℕ) → message_of (Request.Empties t) ≡ message_of (Request.Empties u) → t ≡ u
 same_text t u e = ap text_of e
 
-asked_one : (t u : List ℕ) (a b : Statement) → IsAsked t a → IsAsked u b → t ≡ u → Request.Asks t a ≡ Request.Asks u b
-asked_one t u a b ir iq texts =
-    let trees : a ≡ b = one_reading u a b (subst (λ (xs : List ℕ). Spells xs a) texts ir.spelled) iq.spelled in
-    ap (λ (xs : List ℕ). Request.Asks xs a) texts ∙ ap (λ (tree : Statement). Request.Asks u tree) trees
+-- a text asks one thing
+same_meaning : (t u : List ℕ) (a b : Meaning) → IsQuery t a → IsQuery u b → message_of (Request.Empties t) ≡ message_of (Request.Empties u) → a ≡ b
+same_meaning t u a b p q e = one_meaning u a b (subst (λ (xs : List ℕ). Means xs a) (same_text t u e) p.means) q.means
+
+same_asked : (t u : List ℕ) (a b : Statement) → t ≡ u → meaning.Serves a ≡ meaning.Serves b → Request.Asks t a ≡ Request.Asks u b
+same_asked t u a b texts m = let trees : a ≡ b = cc in ap (λ (xs : List ℕ). Request.Asks xs a) texts ∙ ap (λ (tree : Statement). Request.Asks u tree) trees
+
+same_refused : (t u : List ℕ) (a b : Refusal) → t ≡ u → meaning.Refused a ≡ meaning.Refused b → Request.Refused t a ≡ Request.Refused u b
+same_refused t u a b texts m = let causes : a ≡ b = cc in ap (λ (xs : List ℕ). Request.Refused xs a) texts ∙ ap (λ (cause : Refusal). Request.Refused u cause) causes
+
+nothing_served : (tree : Statement) → meaning.Nothing ≡ meaning.Serves tree → ⊥
+nothing_served tree e = absurd cc
+
+nothing_refused : (cause : Refusal) → meaning.Nothing ≡ meaning.Refused cause → ⊥
+nothing_refused cause e = absurd cc
+
+served_refused : (tree : Statement) (cause : Refusal) → meaning.Serves tree ≡ meaning.Refused cause → ⊥
+served_refused tree cause e = absurd cc
 
 -- in one place a message is one request
 one_said : (p : Phase) (r q : Request) → IsSaid p r → IsSaid p q → message_of r ≡ message_of q → r ≡ q
 one_said Phase.Opening (Request.Encrypts a) (Request.Encrypts b) ir iq e = ap (λ (how : Encryption). Request.Encrypts how) (one_asking a b e)
 one_said Phase.Opening (Request.Encrypts a) (Request.Opens b) ir iq e = absurd (asking_opens_not a b e)
+one_said Phase.Opening (Request.Encrypts a) (Request.Asks u b) ir iq e = absurd iq
+one_said Phase.Opening (Request.Encrypts a) (Request.Empties u) ir iq e = absurd iq
+one_said Phase.Opening (Request.Encrypts a) (Request.Refused u b) ir iq e = absurd iq
+one_said Phase.Opening (Request.Encrypts a) Request.Leaves ir iq e = absurd iq
 one_said Phase.Opening (Request.Opens a) (Request.Encrypts b) ir iq e = absurd (asking_opens_not b a (sym e))
 one_said Phase.Opening (Request.Opens a) (Request.Opens b) ir iq e = ap (λ (m : Front). Request.Opens (params_of m)) e
-one_said Phase.Opening (Request.Encrypts a) (Request.Asks t b) ir iq e = absurd iq
-one_said Phase.Opening (Request.Encrypts a) (Request.Refused t) ir iq e = absurd iq
-one_said Phase.Opening (Request.Encrypts a) Request.Leaves ir iq e = absurd iq
-one_said Phase.Opening (Request.Opens a) (Request.Asks t b) ir iq e = absurd iq
-one_said Phase.Opening (Request.Opens a) (Request.Refused t) ir iq e = absurd iq
+one_said Phase.Opening (Request.Opens a) (Request.Asks u b) ir iq e = absurd iq
+one_said Phase.Opening (Request.Opens a) (Request.Empties u) ir iq e = absurd iq
+one_said Phase.Opening (Request.Opens a) (Request.Refused u b) ir iq e = absurd iq
 one_said Phase.Opening (Request.Opens a) Request.Leaves ir iq e = absurd iq
 one_said Phase.Opening (Request.Asks t a) q ir iq e = absurd ir
-one_said Phase.Opening (Request.Refused t) q ir iq e = absurd ir
+one_said Phase.Opening (Request.Empties t) q ir iq e = absurd ir
+one_said Phase.Opening (Request.Refused t a) q ir iq e = absurd ir
 one_said Phase.Opening Request.Leaves q ir iq e = absurd ir
 one_said Phase.Serving (Request.Encrypts a) q ir iq e = absurd ir
 one_said Phase.Serving (Request.Opens a) q ir iq e = absurd ir
 one_said Phase.Serving (Request.Asks t a) (Request.Encrypts b) ir iq e = absurd iq
 one_said Phase.Serving (Request.Asks t a) (Request.Opens b) ir iq e = absurd iq
-one_said Phase.Serving (Request.Asks t a) (Request.Asks u b) ir iq e = asked_one t u a b ir iq (same_text t u e)
-one_said Phase.Serving (Request.Asks t a) (Request.Refused u) ir iq e = absurd (iq.none a (subst (λ (xs : List ℕ). IsAsked xs a) (same_text t u e) ir))
+one_said Phase.Serving (Request.Asks t a) (Request.Asks u b) ir iq e = same_asked t u a b (same_text t u e) (same_meaning t u (meaning.Serves a) (meaning.Serves b) ir iq e)
+one_said Phase.Serving (Request.Asks t a) (Request.Empties u) ir iq e = absurd (nothing_served a (sym (same_meaning t u (meaning.Serves a) meaning.Nothing ir iq e)))
+one_said Phase.Serving (Request.Asks t a) (Request.Refused u b) ir iq e = absurd (served_refused a b (same_meaning t u (meaning.Serves a) (meaning.Refused b) ir iq e))
 one_said Phase.Serving (Request.Asks t a) Request.Leaves ir iq e = absurd cc
-one_said Phase.Serving (Request.Refused t) (Request.Encrypts b) ir iq e = absurd iq
-one_said Phase.Serving (Request.Refused t) (Request.Opens b) ir iq e = absurd iq
-one_said Phase.Serving (Request.Refused t) (Request.Asks u b) ir iq e = absurd (ir.none b (subst (λ (xs : List ℕ). IsAsked xs b) (sym (same_text t u e)) iq))
-one_said Phase.Serving (Request.Refused t) (Request.Refused u) ir iq e = ap (λ (xs : List ℕ). Request.Refused xs) (same_text t u e)
-one_said Phase.Serving (Request.Refused t) Request.Leaves ir iq e = absurd cc
+one_said Phase.Serving (Request.Empties t) (Request.Encrypts b) ir iq e = absurd iq
+one_said Phase.Serving (Request.Empties t) (Request.Opens b) ir iq e = absurd iq
+one_said Phase.Serving (Request.Empties t) (Request.Asks u b) ir iq e = absurd (nothing_served b (same_meaning t u meaning.Nothing (meaning.Serves b) ir iq e))
+one_said Phase.Serving (Request.Empties t) (Request.Empties u) ir iq e = ap (λ (xs : List ℕ). Request.Empties xs) (same_text t u e)
+one_said Phase.Serving (Request.Empties t) (Request.Refused u b) ir iq e = absurd (nothing_refused b (same_meaning t u meaning.Nothing (meaning.Refused b) ir iq e))
+one_said Phase.Serving (Request.Empties t) Request.Leaves ir iq e = absurd cc
+one_said Phase.Serving (Request.Refused t a) (Request.Encrypts b) ir iq e = absurd iq
+one_said Phase.Serving (Request.Refused t a) (Request.Opens b) ir iq e = absurd iq
+one_said Phase.Serving (Request.Refused t a) (Request.Asks u b) ir iq e = absurd (served_refused b a (sym (same_meaning t u (meaning.Refused a) (meaning.Serves b) ir iq e)))
+one_said Phase.Serving (Request.Refused t a) (Request.Empties u) ir iq e = absurd (nothing_refused a (sym (same_meaning t u (meaning.Refused a) meaning.Nothing ir iq e)))
+one_said Phase.Serving (Request.Refused t a) (Request.Refused u b) ir iq e = same_refused t u a b (same_text t u e) (same_meaning t u (meaning.Refused a) (meaning.Refused b) ir iq e)
+one_said Phase.Serving (Request.Refused t a) Request.Leaves ir iq e = absurd cc
 one_said Phase.Serving Request.Leaves (Request.Encrypts b) ir iq e = absurd iq
 one_said Phase.Serving Request.Leaves (Request.Opens b) ir iq e = absurd iq
 one_said Phase.Serving Request.Leaves (Request.Asks u b) ir iq e = absurd cc
-one_said Phase.Serving Request.Leaves (Request.Refused u) ir iq e = absurd cc
+one_said Phase.Serving Request.Leaves (Request.Empties u) ir iq e = absurd cc
+one_said Phase.Serving Request.Leaves (Request.Refused u b) ir iq e = absurd cc
 one_said Phase.Serving Request.Leaves Request.Leaves ir iq e = refl
 one_said Phase.Over r q ir iq e = absurd ir
 

@@ -1,5 +1,5 @@
 -- The backend's messages, shown to the owner, are those of the plaintext tables.
-use Rattle.std.proofs.Common.{ℕ, ℤ, ◌≡◌, ◌⊎◌, inl, inr, nat_eq, Bool, true, false, List, [], ◌∷◌, ◌++◌, map, length, codes, Option, Some, None, if◌then◌else◌, refl, sym, ap, subst, ◌∙◌, append_assoc, suc}
+use Rattle.std.proofs.Common.{ℕ, ◌≡◌, inl, inr, nat_eq, true, List, [], ◌∷◌, ◌++◌, map, length, codes, Option, Some, if◌then◌else◌, refl, sym, ap, subst, ◌∙◌, append_assoc, suc}
 use Rattle.std.specs.List.{AllByRecursion}
 use Rattle.std.specs.Fmt.{decimal}
 use Rattle.std.specs.Cmp.Lexicographic.{pointwise, bytes_decides}
@@ -7,13 +7,11 @@ use Rattle.pg_wire.specs.declared.back.Field.{Field}
 use Rattle.pg_wire.specs.declared.back.Back.{Back}
 use Rattle.pg_wire.specs.declared.back.Back.TheVariants as backs
 use Rattle.sql_profile.specs.declared.statement.Item.{Item}
-use Rattle.sql_profile.specs.declared.statement.Items.{Items}
 use Rattle.sql_profile.specs.declared.statement.Items.TheVariants as select
 use Rattle.sql_profile.specs.declared.statement.Statement.{Statement}
 use Rattle.sql_profile.specs.declared.statement.Statement.TheVariants as statement
-use Rattle.sql_profile.specs.Tree.{IsStatement, AreItems, IsItem, IsColumn, id, body}
+use Rattle.sql_profile.specs.Tree.{IsStatement, AreItems, IsItem}
 use Rattle.table_machine.specs.declared.cell.Cell.{Cell}
-use Rattle.table_machine.specs.declared.outcome.Outcome.{Outcome}
 use Rattle.table_machine.specs.Machine.{Action, outcome_of, out_column, out_cell}
 use Rattle.table_machine.specs.Stored.{stored, stored_action, bytea_text, bytea_of}
 use Rattle.table_machine.specs.Replies.{messages_of, field_of, ready}
@@ -22,7 +20,7 @@ use Rattle.plain_tables.specs.Plain.{PlainCell, plain, plain_action}
 use Rattle.plain_tables.specs.Rewritten.{rewritten, is_protected, protected_of}
 use Rattle.plain_tables.specs.Standing.{stored_as, stored_rows, IsMeant}
 use Rattle.plain_tables.specs.Shown.{Opens, as_text, described, shown_cell, shown_cells, shown_message}
-use Rattle.plain_tables.proofs.Carried.{stored_as_action, action_stored}
+use Rattle.plain_tables.proofs.Carried.{action_stored}
 
 -- a text is itself
 same_text_true : (xs ys : List ℕ) → xs ≡ ys → pointwise nat_eq xs ys ≡ true

@@ -1,12 +1,14 @@
--- The two laws by which a session over stored tables is one over plaintext tables.
-use Rattle.std.specs.Prelude.{ℕ, ◌≡◌, List, [], ◌∷◌, ◌++◌, map, Option, Some}
+-- The laws by which a session over stored tables is one over plaintext tables.
+use Rattle.std.specs.Prelude.{ℕ, ◌≡◌, true, List, [], ◌∷◌, ◌++◌, map, Option, Some}
 use Rattle.std.specs.List.{AllByRecursion}
 use Rattle.sql_profile.specs.declared.statement.Statement.{Statement}
 use Rattle.sql_profile.specs.Tree.{IsStatement}
 use Rattle.table_machine.specs.Machine.{outcome_of, rows_after}
-use Rattle.table_machine.specs.Stored.{stored_action, bytea_of, bytea_text}
+use Rattle.table_machine.specs.Stored.{bytea_of, bytea_text}
 use Rattle.table_machine.specs.Replies.{messages_of, ready}
 use Rattle.table_machine.specs.Backend.{executed, rows_executed}
+use Rattle.plain_tables.specs.declared.meaning.Meaning.TheVariants as meaning
+use Rattle.plain_tables.specs.Meanings.{has_short_strings, Means}
 use Rattle.plain_tables.specs.Plain.{PlainCell, plain, plain_action}
 use Rattle.plain_tables.specs.Rewritten.{rewritten, protected_of}
 use Rattle.plain_tables.specs.Standing.{stored_rows, IsMeant}
@@ -25,3 +27,7 @@ RepliesStand =
     → bytea_of (bytea_text cell) ≡ Some cell → AllByRecursion (IsMeant (Opens client opened)) rows
     → map (shown_message opened (protected_of tree)) (messages_of (executed (rewritten cell tree) (stored_rows rows)) ++ ready ∷ [])
     ≡ messages_of (outcome_of (plain client) (plain_action client [] tree) rows) ++ ready ∷ []
+
+-- a statement that a text asks is one that can be sent on
+abbrev pub ServedIsStatement : Type 0
+ServedIsStatement = (text : List ℕ) (tree : Statement) → Means text (meaning.Serves tree) → IsStatement tree × (has_short_strings tree ≡ true)

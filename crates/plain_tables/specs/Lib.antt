@@ -1,3 +1,5 @@
+pub mod Served
+pub mod Meanings
 pub mod Requests
 pub mod BadMessages
 pub mod Refusals

@@ -1,5 +1,5 @@
 -- The plaintext tables: the table machine over cells that are public, or an owner's plaintext with what is stored for it.
-use Rattle.std.specs.Prelude.{ℕ, ◌==◌, nat_eq, Bool, if◌then◌else◌, List, [], ◌∷◌, Option, Some, None}
+use Rattle.std.specs.Prelude.{ℕ, ◌==◌, nat_eq, if◌then◌else◌, List, [], ◌∷◌, Option, Some}
 use Rattle.std.specs.Cmp.Lexicographic.{pointwise}
 use Rattle.acra_base.specs.declared.kind.ValueKind.{ValueKind}
 use Rattle.acra_base.specs.declared.kind.ValueKind.TheVariants as kind

@@ -1,26 +1,28 @@
 -- What a client asks, and the stream of bytes that it sends.
-use Rattle.std.specs.Prelude.{ℕ, ◌≡◌, ◌^◌, ◌≤◌, nat_le, Bool, true, false, List, [], ◌∷◌, ◌++◌, length}
-use Rattle.std.specs.List.{flat_map, list_all}
+use Rattle.std.specs.Prelude.{ℕ, ◌≡◌, ◌^◌, Bool, true, false, List, [], ◌∷◌, ◌++◌}
+use Rattle.std.specs.List.{flat_map}
 use Rattle.pg_wire.specs.declared.front.Pair.{Pair}
 use Rattle.pg_wire.specs.declared.front.Front.{Front}
 use Rattle.pg_wire.specs.declared.front.Front.TheVariants as fronts
 use Rattle.pg_wire.specs.declared.frame.Side.TheVariants as side
 use Rattle.pg_wire.specs.Frames.{IsFrame}
-use Rattle.pg_wire.specs.Fronts.{IsText, str, IsFront, front_kind, front_body, front_frame}
-use Rattle.sql_profile.specs.declared.statement.Operand.{Operand}
-use Rattle.sql_profile.specs.declared.statement.Operand.TheVariants as operand
+use Rattle.pg_wire.specs.Fronts.{IsText, str, IsFront, front_body, front_frame}
 use Rattle.sql_profile.specs.declared.statement.Statement.{Statement}
-use Rattle.sql_profile.specs.declared.statement.Statement.TheVariants as statement
-use Rattle.sql_profile.specs.Grammar.{Spells}
 use Rattle.plain_tables.specs.declared.encryption.Encryption.{Encryption}
 use Rattle.plain_tables.specs.declared.encryption.Encryption.TheVariants as encryption
+use Rattle.plain_tables.specs.declared.meaning.Meaning.{Meaning}
+use Rattle.plain_tables.specs.declared.meaning.Meaning.TheVariants as meaning
+use Rattle.plain_tables.specs.declared.refusal.Refusal.{Refusal}
+use Rattle.plain_tables.specs.Meanings.{Means}
 
--- a request for encryption, a startup message, a text with the statement that it spells, a text that spells none, the end
+-- a request for encryption, a startup message, a text with the statement that it spells, a text without a statement, a text
+-- with the cause for which it is refused, the end
 pub data Request : Type 0 where
   Encrypts : Encryption → Request
   Opens : List Pair → Request
   Asks : (text : List ℕ) (tree : Statement) → Request
-  Refused : (text : List ℕ) → Request
+  Empties : (text : List ℕ) → Request
+  Refused : (text : List ℕ) (cause : Refusal) → Request
   Leaves : Request
 
 abbrev pub asking : Encryption → Front
@@ -31,7 +33,8 @@ abbrev pub message_of : Request → Front
 message_of (Request.Encrypts how) = asking how
 message_of (Request.Opens params) = fronts.Startup params
 message_of (Request.Asks text tree) = fronts.Query text
-message_of (Request.Refused text) = fronts.Query text
+message_of (Request.Empties text) = fronts.Query text
+message_of (Request.Refused text cause) = fronts.Query text
 message_of Request.Leaves = fronts.Terminate
 
 -- before the startup message, after it, after the end
@@ -44,7 +47,8 @@ abbrev pub phase_after : Phase → Request → Phase
 phase_after phase (Request.Encrypts how) = phase
 phase_after phase (Request.Opens params) = Phase.Serving
 phase_after phase (Request.Asks text tree) = phase
-phase_after phase (Request.Refused text) = phase
+phase_after phase (Request.Empties text) = phase
+phase_after phase (Request.Refused text cause) = phase
 phase_after phase Request.Leaves = Phase.Over
 
 -- whether a startup packet is awaited
@@ -53,47 +57,25 @@ is_opening Phase.Opening = true
 is_opening Phase.Serving = false
 is_opening Phase.Over = false
 
--- ---- limits
+-- ---- what may be said where
 
--- a client's message has a length up to 2^24, a text 2^20 bytes, a string 2^18
+-- a client's message has a length up to 2^24
 abbrev pub message_limit : ℕ
 message_limit = 2 ^ 24
 
-abbrev pub text_limit : ℕ
-text_limit = 2 ^ 20
-
-abbrev pub string_limit : ℕ
-string_limit = 2 ^ 18
-
-abbrev pub is_short_value : Operand → Bool
-is_short_value (operand.Text text) = nat_le (length text) string_limit
-is_short_value (operand.Number n) = true
-
--- each string is within its limit
-abbrev pub has_short_strings : Statement → Bool
-has_short_strings (statement.Select table items) = true
-has_short_strings (statement.Insert table columns rows) = list_all (λ (row : List Operand). list_all is_short_value row) rows
-
--- ---- what may be said where
-
-pub record IsAsked (text : List ℕ) (tree : Statement) : Type 0 where
-  pub no_zero : IsText text
-  pub short : length text ≤ text_limit
-  pub spelled : Spells text tree
-  pub strings : has_short_strings tree ≡ true
-
--- a text within a message's length that asks no statement
-pub record IsRefused (text : List ℕ) : Type 0 where
+-- a text within a message's length, and what it asks
+pub record IsQuery (text : List ℕ) (what : Meaning) : Type 0 where
   pub no_zero : IsText text
   pub framed : IsFrame side.Client message_limit false 81 (str text)
-  pub none : (tree : Statement) → IsAsked text tree → ⊥
+  pub means : Means text what
 
 -- a request in its place
 abbrev pub IsSaid : Phase → Request → Type 0
 IsSaid Phase.Opening (Request.Encrypts how) = Unit {0}
 IsSaid Phase.Opening (Request.Opens params) = IsFront (fronts.Startup params) × IsFrame side.Client message_limit true 0 (front_body (fronts.Startup params))
-IsSaid Phase.Serving (Request.Asks text tree) = IsAsked text tree
-IsSaid Phase.Serving (Request.Refused text) = IsRefused text
+IsSaid Phase.Serving (Request.Asks text tree) = IsQuery text (meaning.Serves tree)
+IsSaid Phase.Serving (Request.Empties text) = IsQuery text meaning.Nothing
+IsSaid Phase.Serving (Request.Refused text cause) = IsQuery text (meaning.Refused cause)
 IsSaid Phase.Serving Request.Leaves = Unit {0}
 IsSaid _ _ = ⊥
 

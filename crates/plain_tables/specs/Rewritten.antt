@@ -1,5 +1,5 @@
 -- The statement that is sent on: a written string is replaced by the stored bytes in text form.
-use Rattle.std.specs.Prelude.{ℕ, nat_eq, List, [], ◌∷◌, map, Bool, not}
+use Rattle.std.specs.Prelude.{ℕ, nat_eq, List, [], map, Bool}
 use Rattle.std.specs.Cmp.Lexicographic.{pointwise}
 use Rattle.sql_profile.specs.declared.statement.Operand.{Operand}
 use Rattle.sql_profile.specs.declared.statement.Operand.TheVariants as operand

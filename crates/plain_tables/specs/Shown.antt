@@ -1,5 +1,5 @@
 -- How a message of the backend is shown: a protected column as text, and its cells opened.
-use Rattle.std.specs.Prelude.{ℕ, ◌≡◌, ℤ, negsuc, Bool, if◌then◌else◌, List, [], ◌∷◌, Option, Some, None}
+use Rattle.std.specs.Prelude.{ℕ, ◌≡◌, negsuc, Bool, if◌then◌else◌, List, [], ◌∷◌, Option, Some, None}
 use Rattle.pg_wire.specs.declared.back.Field.{Field}
 use Rattle.pg_wire.specs.declared.back.Back.{Back}
 use Rattle.pg_wire.specs.declared.back.Back.TheVariants as backs

@@ -2,7 +2,8 @@ ghost use Rattle.std.specs.Prelude.{◌≡◌, ◌++◌, ℕ, List};
 ghost use Rattle.pg_wire.specs.declared.frame.MessageFault.{MessageFault};
 ghost use Rattle.plain_tables.specs.Requests.{Phase, Request, NoRequest, Splits};
 ghost use Rattle.plain_tables.specs.BadMessages.{IsBad, IsCut};
-ghost use Rattle.plain_tables.specs.Laws.{RowsStand, RepliesStand};
+ghost use Rattle.plain_tables.specs.Laws.{RowsStand, RepliesStand, ServedIsStatement};
+ghost use Rattle.plain_tables.specs.Meanings.{OneMeaning};
 
 /// Stored tables still stand for the plaintext tables after a statement.
 pub fn tables_still_stand()
@@ -20,6 +21,16 @@ pub fn bad_messages()
     ensures stays { (phase : Phase) (bytes more : List ℕ) (f : MessageFault) → IsBad phase bytes f → IsBad phase (bytes ++ more) f }
     ensures no_request { (phase : Phase) (bytes : List ℕ) (f : MessageFault) → IsBad phase bytes f → NoRequest phase bytes }
     ensures uncut { (phase : Phase) (bytes : List ℕ) (f : MessageFault) → IsBad phase bytes f → IsCut phase bytes → ⊥ }
+{}
+
+/// A text asks one thing: its statement, nothing, or what is refused for one cause.
+pub fn one_meaning()
+    ensures { OneMeaning }
+{}
+
+/// A statement that a text asks is one that can be sent on, and its strings are short.
+pub fn served_is_statement()
+    ensures { ServedIsStatement }
 {}
 
 /// A stream is split into requests in one way.

@@ -5,6 +5,12 @@
 
 mod encryption;
 mod laws;
+mod meaning;
+mod refusal;
 
 pub use encryption::Encryption;
-pub use laws::{bad_messages, one_split, replies_stand, tables_still_stand};
+pub use laws::{
+    bad_messages, one_meaning, one_split, replies_stand, served_is_statement, tables_still_stand,
+};
+pub use meaning::Meaning;
+pub use refusal::Refusal;

@@ -1,12 +1,13 @@
-use Rattle.std.proofs.Common.{◌≡◌, Bool, true, [], ◌++◌, arith, sym, subst, inl}
+use Rattle.std.proofs.Common.{◌≡◌, Bool, true, [], ◌++◌, arith, sym, subst, ◌∙◌, inl}
 use Rattle.acra_base.specs.declared.no_memory.NoMemory.{NoMemory}
 use Rattle.acra_block.specs.Keys.{Key}
 use Rattle.lab_session.specs.Runs.{started, state_after_all}
 use Rattle.lab_session.specs.Session.{Rests, Ends, may_begin}
-use Rattle.lab_session.specs.Answering.{request_of}
+use Rattle.lab_session.specs.Answering.{request_of, CanAnswer}
 use Rattle.lab_session.specs.declared.said.Next.TheVariants as next
 use Rattle.lab_session.specs.declared.status.Status.{Status}
 use Rattle.lab_session.specs.declared.status.Status.TheVariants as ends
+use Rattle.lab_session.proofs.Saying.{can_said}
 use Rattle.lab_session.proofs.Steps.{next_is, piece_of, may_stop, not_read, none_left, some_left, nothing_read, ends_stopped, starts, reads_on, answers_on, ends_here, lost, bad_here, cut_here, spent_here, breaks_off, leaves}
 use Rattle.lab_session.proofs.session.serve.Goals as goal
 
@@ -34,6 +35,12 @@ returns-in-Ok-Leaves-clause-ran g c =
     let s = c.session.invariant.so_far in
     let k = next_is NoMemory _ _ c.in-Ok-Leaves.field-0 next.Leaves c.in-Ok-Leaves.field-0-is c.in-Ok-Leaves.ensures in
     (_, [], k.rest, leaves _ _ _ _ _ _ _ _ _ _ s.0 s.1 _ k)
+
+pub answer-requires-clause-can : goal.answer-requires-clause-can
+answer-requires-clause-can g c =
+    let s = c.session.invariant.so_far in
+    let n = next_is NoMemory _ _ c.in-Ok-Said.field-0 (next.Said c.in-Ok-Said.said) c.in-Ok-Said.field-0-is c.in-Ok-Said.ensures in
+    subst (λ (b : Bool). CanAnswer b c.in-Ok-Said.said) (s.1.opening ∙ sym s.1.rests.opening) (can_said c.session.framer.opening n.0 c.in-Ok-Said.said n.1.placed)
 
 pub session-preserved-in-Ok : goal.session-preserved-in-Ok
 session-preserved-in-Ok g c =

@@ -1,8 +1,8 @@
 use Rattle.std.proofs.Common.{◌≡◌, List, drop}
 use Rattle.std.specs.List.{list_all}
 use Rattle.sql_profile.specs.declared.statement.Operand.{Operand}
-use Rattle.plain_tables.specs.Requests.{is_short_value}
-use Rattle.lab_session.proofs.said.rows_are_short.Given as goal
+use Rattle.plain_tables.specs.Meanings.{is_short_value}
+use Rattle.lab_session.proofs.meanings.rows_are_short.Given as goal
 
 abbrev pub invariant-rows : goal.invariant-rows
 invariant-rows l = list_all (λ (row : List Operand). list_all is_short_value row) l.rows ≡ list_all (λ (row : List Operand). list_all is_short_value row) (drop l.row-index l.rows)

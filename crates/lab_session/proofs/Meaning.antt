@@ -1,0 +1,21 @@
+-- What a text asks, by what parsing it told.
+use Rattle.std.proofs.Common.{◌≡◌, ℕ, List, Result, Ok, Err, sym, ap, subst, ◌∙◌}
+use Rattle.std.specs.Prelude.{IfOk}
+use Rattle.sql_parser.specs.declared.refusal.SqlRefusal.{SqlRefusal}
+use Rattle.sql_parser.specs.declared.refusal.ParseFault.{ParseFault}
+use Rattle.sql_parser.specs.declared.refusal.ParseFault.TheVariants as fault
+use Rattle.sql_parser.specs.Outcome.{Outcome, IsOutcome, IsTold}
+use Rattle.plain_tables.specs.declared.meaning.Meaning.{Meaning}
+use Rattle.plain_tables.specs.declared.meaning.Meaning.TheVariants as meaning
+use Rattle.plain_tables.specs.declared.refusal.Refusal.{Refusal}
+use Rattle.plain_tables.specs.Meanings.{text_limit, refusal_of, meaning_of, Means}
+
+pub meant : (E : Type 0) (text : List ℕ) (outcome : Outcome) (result : Result Meaning E) → IsOutcome text text_limit outcome → IfOk result (λ what. what ≡ meaning_of outcome) → IfOk result (Means text)
+meant E text outcome (Ok what) is e = record { outcome = outcome; is = is; means = sym e }
+meant E text outcome (Err error) is e = tt
+
+pub meant_refused : (text : List ℕ) (r : SqlRefusal) (cause : Refusal) → IsOutcome text text_limit (Err r) → cause ≡ refusal_of r → Means text (meaning.Refused cause)
+meant_refused text r cause is e = record { outcome = Err r; is = is; means = ap (λ (x : Refusal). meaning.Refused x) (sym e) }
+
+pub told_refused : (text : List ℕ) (f : ParseFault) (r shown : SqlRefusal) (cause : Refusal) → f ≡ fault.Refused r → shown ≡ r → IsTold text text_limit (Err f) → cause ≡ refusal_of shown → Means text (meaning.Refused cause)
+told_refused text f r shown cause e same told c = meant_refused text r cause (subst (λ (x : ParseFault). IsTold text text_limit (Err x)) e told) (c ∙ ap refusal_of same)

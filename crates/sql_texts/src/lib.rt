@@ -1,7 +1,7 @@
 //! Texts of the whole SQL profile, each with what becomes of it.
 #![tactic(auto)]
 
-ghost use Rattle.std.specs.Prelude.{◌≡◌, ◌++◌, ◌×◌, IfOk, Ok};
+ghost use Rattle.std.specs.Prelude.{◌≡◌, ◌++◌, IfOk, Ok};
 ghost use Rattle.sql_tree.specs.declared.statement.Statement.{Statement};
 ghost use Rattle.sql_tree.specs.Canonical.{canon};
 ghost use Rattle.sql_parser.specs.Outcome.{IsOutcome};

@@ -1,5 +1,5 @@
 -- What rewriting answers, by what becomes of the text.
-use Rattle.std.specs.Prelude.{ℕ, ◌≡◌, Result, Ok, Err}
+use Rattle.std.specs.Prelude.{◌≡◌, Result, Ok, Err}
 use Rattle.sql_parser.specs.declared.refusal.ParseFault.{ParseFault}
 use Rattle.sql_parser.specs.declared.refusal.ParseFault.TheVariants as fault
 use Rattle.sql_parser.specs.Outcome.{Outcome}

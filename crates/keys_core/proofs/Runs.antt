@@ -1,6 +1,6 @@
 -- The parts of a run make the run.
 use Rattle.std.proofs.Common.{◌≡◌, ℕ, ◌≤◌, ◌<◌, ◌^◌, arith, IfErr, List, ◌++◌, length, take, drop, Option, Some, None, IsSomeAnd, Result, Ok, Err, refl, sym, ap, subst, ◌∙◌}
-use Rattle.std.proofs.lemmas.List.{take-append-drop, append-nil}
+use Rattle.std.proofs.lemmas.List.{take-append-drop, append-nil, length-drop}
 use Rattle.rand_core.specs.Stream.{Stream}
 use Rattle.acra_base.specs.Known.{Grew}
 use Rattle.keystore.specs.Rings.{RingState}
@@ -21,10 +21,10 @@ use Rattle.keys_core.proofs.Limits.{short_ring, long_ring}
 use Rattle.keys_core.specs.Told.{Drew}
 use Rattle.keys_core.specs.Runs.{PreparedAs, StopsAs, IsKept, FrontPrinted, FinishedAs, IsRun, FinishCaused, StopCaused, CausedBy, MasterAs}
 
-pub front_of : (h h' line : List ℕ) (n : ℕ) (old new : Option (List ℕ)) → Grew old new (take n line) → old ≡ Some h → new ≡ Some h' → FrontPrinted line h h'
-front_of h h' line n old new grew e f =
+pub front_of : (h h' line : List ℕ) (n : ℕ) (old new : Option (List ℕ)) → Grew old new (take n line) → n < length line → old ≡ Some h → new ≡ Some h' → FrontPrinted line h h'
+front_of h h' line n old new grew less e f =
     let told : Grew (Some h) (Some h') (take n line) = subst (λ (o : Option (List ℕ)). Grew (Some h) o (take n line)) f (subst (λ (o : Option (List ℕ)). Grew o new (take n line)) e grew) in
-    record { front = take n line; more = drop n line; parts = take-append-drop n line; printed = told }
+    record { front = take n line; more = drop n line; parts = take-append-drop n line; less = omega (arith, length-drop n line, less); printed = told }
 
 -- ---- a run by its parts
 

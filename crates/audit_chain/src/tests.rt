@@ -175,22 +175,28 @@ fn appended_lines(rt: HostRuntime) -> Result<(), Fail> {
     Ok(())
 }
 
+/// Each byte is changed to every other value. The line that breaks is the one that the byte stands in, and a
+/// newline stands in the line that it ends.
 #[test]
-fn each_changed_bit_breaks_its_line(rt: HostRuntime) -> Result<(), Fail> {
+fn each_changed_byte_breaks_its_line(rt: HostRuntime) -> Result<(), Fail> {
     let alloc = rt.alloc();
     let mut log = joined(alloc, &LINES)?;
     let mut line = 1u64;
     'bytes: for place in 0..log.len() {
         let byte = log[place];
-        'bits: for bit in 0..8u8 {
-            log[place] = byte ^ (1 << bit);
-            assert_eq!(rt; verdict(alloc, &log), broken(line), "at {place}, bit {bit}");
+        'values: for value in 0..256u16 {
+            if value == byte as u16 {
+                continue;
+            }
+            log[place] = value as u8;
+            assert_eq!(rt; verdict(alloc, &log), broken(line), "at {place}, {value}");
         }
         log[place] = byte;
         if byte == b'\n' {
             line = line.saturating_add(1);
         }
     }
+    assert_eq!(rt; line, 5);
     assert_eq!(rt; verdict(alloc, &log), valid(4, true));
     Ok(())
 }

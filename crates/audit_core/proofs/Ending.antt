@@ -1,13 +1,11 @@
 -- How a run ends, by its steps.
 use Rattle.std.proofs.Common.{◌≡◌, ℕ, ◌⊎◌, inl, inr, Bool, true, false, List, [], Option, Some, None, Result, Ok, Err, refl, sym, ap, subst, ◌∙◌}
-use Rattle.hex.specs.Hex.{decode_sized}
 use Rattle.acra_base.specs.Known.{Grew}
 use Rattle.acra_base.specs.Grows.{grew_nothing}
 use Rattle.keystore.specs.Rings.{RingState}
 use Rattle.audit_chain.specs.Findings.{Finding, Finds}
 use Rattle.audit_chain.specs.Verdicts.{WhereRead}
-use Rattle.audit_core.specs.Master.{IsMaster, stem}
-use Rattle.audit_core.specs.Keys.{IsKeystore, NoMaster, NoRing, MasterFound, RingFound, RingDue, KeyIs}
+use Rattle.audit_core.specs.Keys.{IsMaster, IsKeystore, NoMaster, NoRing, MasterFound, RingFound, RingDue, KeyIs}
 use Rattle.audit_core.specs.Reports.{IsReport, Reported, IsDueReport, EndsSo, end_of, is_fault}
 use Rattle.audit_core.specs.Outcomes.{GivesKey, RingIsBad, Outcome, IsDueEnd}
 use Rattle.audit_core.specs.declared.files.FileFault.TheVariants as faults
@@ -15,15 +13,18 @@ use Rattle.audit_core.specs.declared.status.AuditStatus.{AuditStatus}
 use Rattle.audit_core.specs.declared.status.AuditStatus.TheVariants as ends
 
 one_master : (file a b : List ℕ) → IsMaster file a → IsMaster file b → a ≡ b
-one_master file a b p q = let same : Ok a ≡ Ok b = sym p ∙ q in cc
+one_master file a b p q = let same : ◌≡◌ {A = Option (List ℕ)} (Some a) (Some b) = sym p ∙ q in cc
+
+not_both : {A : Type 0} (file key : List ℕ) → NoMaster file → IsMaster file key → A
+not_both file key p q = let same : ◌≡◌ {A = Option (List ℕ)} None (Some key) = sym p ∙ q in absurd cc
 
 -- ---- the master file gives no key
 
 pub bad_master_due : (m r l : List ℕ) → NoMaster m → IsDueEnd m r l ends.BadMaster
 bad_master_due m r l none = record {
   bad_master = λ h. inl refl;
-  refused = λ h. absurd (none h.0 h.1);
-  said = λ key finding gives f. absurd (none gives.master gives.is_master);
+  refused = λ h. not_both m h.0 none h.1;
+  said = λ key finding gives f. not_both m gives.master none gives.is_master;
 }
 
 pub fault_due : (m r l : List ℕ) (status : AuditStatus) → is_fault status ≡ true → IsDueEnd m r l status
@@ -33,7 +34,7 @@ fault_due m r l status fault = record { bad_master = λ h. inr fault; refused = 
 
 pub refused_due : (m r l master : List ℕ) → IsMaster m master → NoRing master r → IsDueEnd m r l ends.RingRefused
 refused_due m r l master is none = record {
-  bad_master = λ h. absurd (h master is);
+  bad_master = λ h. not_both m master h is;
   refused = λ h. inl refl;
   said = λ key finding gives f. absurd (none gives.ring (subst (λ (k : List ℕ). IsKeystore k r gives.ring) (one_master m gives.master master gives.is_master is) gives.is_ring));
 }
@@ -45,7 +46,7 @@ gives_key m r master key is found = record { master = master; ring = found.0; is
 
 pub reported_due : (m r l master key : List ℕ) (status : AuditStatus) → IsMaster m master → RingFound master (Ok key) r → RingDue master (Ok key) r → IsDueReport key status l → IsDueEnd m r l status
 reported_due m r l master key status is found due report = record {
-  bad_master = λ h. absurd (h master is);
+  bad_master = λ h. not_both m master h is;
   refused = λ h. absurd (h.2 found.0 (subst (λ (k : List ℕ). IsKeystore k r found.0) (one_master m master h.0 is h.1) found.1));
   said = λ other finding gives f.
       let ring : IsKeystore master r gives.ring = subst (λ (k : List ℕ). IsKeystore k r gives.ring) (one_master m gives.master master gives.is_master is) gives.is_ring in

@@ -1,4 +1,4 @@
-mod Wholly
+mod Told
 mod Keying
 mod Reporting
 mod Ending

@@ -1,8 +1,8 @@
 -- What is printed of a log, by the verifier's answer.
-use Rattle.std.proofs.Common.{◌≡◌, ℕ, ◌⊎◌, inl, inr, Bool, true, false, List, [], ◌++◌, length, take, drop, Option, Some, None, Result, Ok, Err, refl, sym, ap, subst, ◌∙◌}
+use Rattle.std.proofs.Common.{◌≡◌, ℕ, ◌<◌, ◌-◌, ◌⊎◌, inl, inr, Bool, true, false, List, [], ◌++◌, length, take, drop, Option, Some, None, Result, Ok, Err, refl, sym, ap, subst, ◌∙◌, arith}
 use Rattle.std.specs.Prelude.{codes}
 use Rattle.std.specs.Fmt.{decimal}
-use Rattle.std.proofs.lemmas.List.{take-append-drop}
+use Rattle.std.proofs.lemmas.List.{take-append-drop, length-drop}
 use Rattle.acra_base.specs.Known.{Grew}
 use Rattle.acra_base.specs.Grows.{grew_nothing}
 use Rattle.audit_chain.specs.Findings.{Finding, Finds}
@@ -15,8 +15,8 @@ use Rattle.audit_core.specs.declared.status.AuditStatus.{AuditStatus}
 use Rattle.audit_core.specs.declared.status.AuditStatus.TheVariants as ends
 
 -- a write that failed
-pub wrote_front : (held held' : Option (List ℕ)) (bytes line : List ℕ) (n : ℕ) → Grew held held' (take n bytes) → bytes ≡ line → WroteFront held held' line
-wrote_front held held' bytes line n g e = (take n bytes, drop n bytes, take-append-drop n bytes ∙ e, g)
+pub wrote_front : (held held' : Option (List ℕ)) (bytes line : List ℕ) (n : ℕ) → Grew held held' (take n bytes) → n < length bytes → bytes ≡ line → WroteFront held held' line
+wrote_front held held' bytes line n g less e = (take n bytes, drop n bytes, take-append-drop n bytes ∙ e, omega (arith, length-drop n bytes, less), g)
 
 -- the line of a finding was printed, and the run ended as the finding does
 print_reports : (key : List ℕ) (held held' : Option (List ℕ)) (word : List ℕ) (number : ℕ) (last : List ℕ) (wanted status : AuditStatus) (log : List ℕ) (finding : Finding)

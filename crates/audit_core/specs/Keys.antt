@@ -1,9 +1,9 @@
 -- The audit key, as the folder's files give it.
-use Rattle.std.specs.Prelude.{ℕ, ◌≡◌, ◌≤◌, ◌^◌, List, length, Result, Ok, Err}
+use Rattle.std.specs.Prelude.{ℕ, ◌≡◌, ◌≤◌, ◌^◌, List, length, Some, None, Result, Ok, Err}
 use Rattle.acra_crypto.specs.Gcm.{aes256_gcm}
 use Rattle.keystore.specs.Rings.{RingState}
 use Rattle.ring_file.specs.Files.{SpellsRing}
-use Rattle.audit_core.specs.Master.{IsMaster}
+use Rattle.key_files.specs.Master.{master_of}
 use Rattle.audit_core.specs.declared.files.FileFault.{FileFault}
 use Rattle.audit_core.specs.declared.files.FileFault.TheVariants as faults
 
@@ -12,9 +12,13 @@ pub record IsKeystore (master file : List ℕ) (ring : RingState) : Type 0 where
   pub short : length file ≤ 2 ^ 24
   pub spells : SpellsRing aes256_gcm master file ring
 
--- the file has no master key
+-- the file has this master key
+abbrev pub IsMaster : List ℕ → List ℕ → Type 0
+IsMaster file key = master_of file ≡ Some key
+
+-- it has none
 abbrev pub NoMaster : List ℕ → Type 0
-NoMaster file = (key : List ℕ) → IsMaster file key → ⊥
+NoMaster file = master_of file ≡ None
 
 -- the file has no ring under the master key
 abbrev pub NoRing : List ℕ → List ℕ → Type 0

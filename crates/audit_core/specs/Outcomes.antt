@@ -3,8 +3,7 @@ use Rattle.std.specs.Prelude.{ℕ, ◌≡◌, List, [], Option}
 use Rattle.acra_base.specs.Known.{Grew}
 use Rattle.keystore.specs.Rings.{RingState}
 use Rattle.audit_chain.specs.Findings.{Finding, Finds}
-use Rattle.audit_core.specs.Master.{IsMaster}
-use Rattle.audit_core.specs.Keys.{IsKeystore, NoMaster, NoRing}
+use Rattle.audit_core.specs.Keys.{IsMaster, IsKeystore, NoMaster, NoRing}
 use Rattle.audit_core.specs.Reports.{EndsSo, end_of, Reported}
 use Rattle.audit_core.specs.declared.status.AuditStatus.{AuditStatus}
 use Rattle.audit_core.specs.declared.status.AuditStatus.TheVariants as ends

@@ -1,5 +1,5 @@
 -- What is printed of a log, and how that ends.
-use Rattle.std.specs.Prelude.{ℕ, ◌≡◌, ◌⊎◌, List, [], ◌++◌, Bool, true, false, Option}
+use Rattle.std.specs.Prelude.{ℕ, ◌≡◌, ◌<◌, ◌⊎◌, List, [], ◌++◌, length, Bool, true, false, Option}
 use Rattle.std.specs.Fmt.{decimal}
 use Rattle.acra_base.specs.Known.{Grew}
 use Rattle.audit_chain.specs.Findings.{Finding, Finds}
@@ -15,9 +15,9 @@ is_fault ends.WriteFault = true
 is_fault ends.NoMemory = true
 is_fault status = false
 
--- a front of a line was written
+-- a front of a line was written, and not all of it
 abbrev pub WroteFront : Option (List ℕ) → Option (List ℕ) → List ℕ → Type 0
-WroteFront held held' line = (front : List ℕ) × (behind : List ℕ) × (front ++ behind ≡ line) × Grew held held' front
+WroteFront held held' line = (front : List ℕ) × (behind : List ℕ) × (front ++ behind ≡ line) × (0 < length behind) × Grew held held' front
 
 -- the line was printed and the end is the wanted one; or nothing was, for want of memory; or a front of it
 abbrev pub Printed : Option (List ℕ) → Option (List ℕ) → List ℕ → ℕ → List ℕ → AuditStatus → AuditStatus → Type 0

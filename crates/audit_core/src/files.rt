@@ -5,15 +5,11 @@ ghost use Rattle.acra_base.specs.Causes.{Rose};
 ghost use Rattle.audit_chain.specs.Verdicts.{WhereRead};
 ghost use Rattle.audit_core.specs.Keys.{MasterFound, RingFound, RingDue};
 
-use crate::master::read_master;
-use crate::whole::{WholeFault, read_whole};
 use acra_base::Source;
 use acra_crypto::Aes256Gcm;
+use key_files::{MasterFault, WholeFault, read_master, read_whole};
 use ring_file::{RingFault, read_ring};
 use std::alloc::Global;
-
-/// The file of the master key has at most 64 digits and a newline.
-const MASTER_LIMIT: usize = 65;
 
 /// The keystore's file has at most this many bytes.
 const RING_LIMIT: usize = 1 << 24;
@@ -35,14 +31,11 @@ pub fn master_key<S: Source>(alloc: Global, file: &mut S) -> Result<[u8; 32], Fi
     ensures later { S.read_faults file.old ≤ S.read_faults file.new }
     ensures fault { IsErrOf result FileFault.ReadFault → Rose (S.read_faults file.old) (S.read_faults file.new) }
 {
-    match read_whole(alloc, file, MASTER_LIMIT) {
-        Ok(text) => match read_master(text.as_slice()) {
-            Some(key) => Ok(key),
-            None => Err(FileFault::Refused),
-        },
-        Err(WholeFault::TooLong) => Err(FileFault::Refused),
-        Err(WholeFault::ReadFault) => Err(FileFault::ReadFault),
-        Err(WholeFault::NoMemory) => Err(FileFault::NoMemory),
+    match read_master(alloc, file) {
+        Ok(key) => Ok(key),
+        Err(MasterFault::NoKey) => Err(FileFault::Refused),
+        Err(MasterFault::ReadFault) => Err(FileFault::ReadFault),
+        Err(MasterFault::NoMemory) => Err(FileFault::NoMemory),
     }
 }
 

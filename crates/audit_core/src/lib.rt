@@ -2,12 +2,10 @@
 #![tactic(auto)]
 
 mod files;
-mod master;
 mod report;
 mod status;
 mod text;
 mod top;
-mod whole;
 
 pub use status::{AuditStatus, FolderFile};
 pub use top::audit_top;

@@ -1,3 +1,4 @@
 pub mod Texts
-pub mod Whole
+pub mod Limits
 pub mod Runs
+pub mod Again

@@ -1,6 +1,6 @@
 -- The parts of a run make the run.
-use Rattle.std.proofs.Common.{◌≡◌, ℕ, ◌≤◌, ◌+◌, ◌^◌, ◌-◌, min, arith, IfErr, Bool, true, false, List, [], ◌∷◌, ◌++◌, length, take, drop, Option, Some, None, is_some, Result, Ok, Err, refl, sym, ap, subst, ◌∙◌}
-use Rattle.std.proofs.lemmas.List.{take-append-drop, append-nil}
+use Rattle.std.proofs.Common.{◌≡◌, ℕ, ◌≤◌, ◌<◌, ◌^◌, arith, IfErr, List, ◌++◌, length, take, drop, Option, Some, None, IsSomeAnd, Result, Ok, Err, refl, sym, ap, subst, ◌∙◌}
+use Rattle.std.proofs.lemmas.List.{take-append-drop, append-nil, length-drop}
 use Rattle.rand_core.specs.Stream.{Stream}
 use Rattle.acra_base.specs.Known.{Grew}
 use Rattle.keystore.specs.Rings.{RingState}
@@ -11,17 +11,20 @@ use Rattle.keys_core.specs.declared.status.KeyFile.TheVariants as files
 use Rattle.keys_core.specs.declared.status.KeysStatus.{KeysStatus}
 use Rattle.keys_core.specs.declared.status.KeysStatus.TheVariants as ends
 use Rattle.keys_core.specs.declared.work.Work.{Work}
-use Rattle.keys_core.specs.declared.opening.Shut.{Shut}
-use Rattle.keys_core.specs.declared.opening.Shut.TheVariants as shut
-use Rattle.keys_core.specs.Master.{master_of}
-use Rattle.keys_core.specs.Work.{Run, ended, worked, run_with, run_under, run_of, opened_ring, makes_ring, work_of, status_of}
-use Rattle.keys_core.specs.Told.{Drew, OpensAs}
+use Rattle.keys_core.specs.declared.work.Outcome.{Outcome}
+use Rattle.keys_core.specs.declared.work.Outcome.TheVariants as outcomes
+use Rattle.keys_core.specs.Again.{ReadsBack, KeepsRing}
+use Rattle.keys_core.specs.declared.status.RingTrouble.TheVariants as trouble
+use Rattle.key_files.specs.Master.{master_of}
+use Rattle.keys_core.specs.Work.{Run, ended, worked, run_with, run_under, run_of, opened_ring, made_or_read, makes_ring, status_of}
+use Rattle.keys_core.proofs.Limits.{short_ring, long_ring}
+use Rattle.keys_core.specs.Told.{Drew}
 use Rattle.keys_core.specs.Runs.{PreparedAs, StopsAs, IsKept, FrontPrinted, FinishedAs, IsRun, FinishCaused, StopCaused, CausedBy, MasterAs}
 
-pub front_of : (h h' line : List ℕ) (n : ℕ) (old new : Option (List ℕ)) → Grew old new (take n line) → old ≡ Some h → new ≡ Some h' → FrontPrinted line h h'
-front_of h h' line n old new grew e f =
+pub front_of : (h h' line : List ℕ) (n : ℕ) (old new : Option (List ℕ)) → Grew old new (take n line) → n < length line → old ≡ Some h → new ≡ Some h' → FrontPrinted line h h'
+front_of h h' line n old new grew less e f =
     let told : Grew (Some h) (Some h') (take n line) = subst (λ (o : Option (List ℕ)). Grew (Some h) o (take n line)) f (subst (λ (o : Option (List ℕ)). Grew o new (take n line)) e grew) in
-    record { front = take n line; more = drop n line; parts = take-append-drop n line; printed = told }
+    record { front = take n line; more = drop n line; parts = take-append-drop n line; less = omega (arith, length-drop n line, less); printed = told }
 
 -- ---- a run by its parts
 
@@ -52,11 +55,15 @@ never r = let zero : 1 ≤ 0 = r in absurd (omega arith)
 
 -- ---- before anything is kept or printed
 
-pub prepared : (ask : Ask) (m r key bytes : List ℕ) (s t : Stream) (result : Result Work KeysStatus) → master_of m ≡ Some key → opened_ring (makes_ring ask) key bytes s ≡ opened_ring (makes_ring ask) key r s
-    → PreparedAs result (run_with ask key (opened_ring (makes_ring ask) key bytes s)) s t → PreparedAs result (run_of ask m r s) s t
-prepared ask m r key bytes s t result e f p =
-    let run : run_with ask key (opened_ring (makes_ring ask) key bytes s) ≡ run_of ask m r s = ap (run_with ask key) f ∙ ap (λ (k : Option (List ℕ)). run_under ask k r s) (sym e) in
+pub prepared : (ask : Ask) (m r key bytes : List ℕ) (s t : Stream) (result : Result Work KeysStatus) → master_of m ≡ Some key → bytes ≡ r → length bytes ≤ 2 ^ 24
+    → PreparedAs result (run_with ask key (made_or_read (makes_ring ask) key bytes s)) s t → PreparedAs result (run_of ask m r s) s t
+prepared ask m r key bytes s t result e same short p =
+    let opened : made_or_read (makes_ring ask) key bytes s ≡ opened_ring (makes_ring ask) key r s = sym (short_ring (makes_ring ask) key s bytes short) ∙ ap (λ (b : List ℕ). opened_ring (makes_ring ask) key b s) same in
+    let run : run_with ask key (made_or_read (makes_ring ask) key bytes s) ≡ run_of ask m r s = ap (run_with ask key) opened ∙ ap (λ (k : Option (List ℕ)). run_under ask k r s) (sym e) in
     subst (λ (u : Run). PreparedAs result u s t) run p
+
+pub too_long_run : (ask : Ask) (m r key : List ℕ) (s t : Stream) → master_of m ≡ Some key → 2 ^ 24 < length r → t ≡ s → run_of ask m r s ≡ ended (ends.RingRefused trouble.TooLong) t
+too_long_run ask m r key s t e long same = run_opened ask m r key s s (Err trouble.TooLong) e (long_ring (makes_ring ask) key s r long) ∙ ap (ended (ends.RingRefused trouble.TooLong)) (sym same)
 
 pub worked_cause : (m m' r r' d d' : ℕ) (status : KeysStatus) → StopCaused status 0 0 0 0 d d' → StopCaused status m m' r r' d d'
 worked_cause m m' r r' d d' ends.Done h = absurd h
@@ -169,3 +176,15 @@ stop_no_usage m m' r r' d d' status h e = subst (λ (u : KeysStatus). StopCaused
 
 pub some_none : {A B : Type 0} (o : Option A) (x : A) → Some x ≡ o → o ≡ None → B
 some_none {A} o x e f = let both : ◌≡◌ {A = Option A} (Some x) None = e ∙ f in absurd cc
+
+pub stop_no_done : (m m' r r' d d' : ℕ) (status : KeysStatus) → StopCaused status m m' r r' d d' → status ≡ ends.Done → ⊥
+stop_no_done m m' r r' d d' status h e = subst (λ (u : KeysStatus). StopCaused u m m' r r' d d') e h
+
+done_outcome : (o : Outcome) → ends.Done ≡ status_of o → o ≡ outcomes.Done
+done_outcome outcomes.Done e = refl
+done_outcome (outcomes.Refused why) e = absurd (cc e)
+
+-- the file of work that is done is kept
+pub keeps_ring : (m key : List ℕ) (file : Option (List ℕ)) (k k' : List (List ℕ)) → master_of m ≡ Some key → IsSomeAnd file (ReadsBack key) → IsKept file k k' → KeepsRing m k'
+keeps_ring m key None k k' e h kept = absurd h
+keeps_ring m key (Some file) k k' e h kept = record { key = key; file = file; is_key = e; alone = kept; back = h }

@@ -1,8 +1,7 @@
 -- A text that is a client's name passes, and no other does.
-use Rattle.std.proofs.Common.{◌≡◌, ℕ, ◌≤◌, ◌&&◌, true, List, length, refl, arith}
-use Rattle.std.specs.List.{list_all}
+use Rattle.std.proofs.Common.{◌≡◌, ℕ, ◌≤◌, true, List, length, refl, arith}
 use Rattle.std.proofs.lemmas.Bool.{le-leb}
-use Rattle.acra_base.specs.Client.{is_id_byte, IsClientId}
+use Rattle.acra_base.specs.Client.{IsClientId}
 use Rattle.ring_file.proofs.Names.{all_bytes}
 use Rattle.keys_core.specs.Words.{is_id_text}
 

@@ -1,8 +1,7 @@
 pub mod Codes
 pub mod Words
-pub mod Reading
-pub mod Master
 pub mod Lines
 pub mod Work
+pub mod Again
 pub mod Told
 pub mod Runs

@@ -1,5 +1,5 @@
 -- A run of the key tool over its devices.
-use Rattle.std.specs.Prelude.{ℕ, ◌≡◌, true, List, [], ◌∷◌, ◌++◌, Option, Some, None, is_some, Result, Ok, Err}
+use Rattle.std.specs.Prelude.{ℕ, ◌≡◌, ◌<◌, true, List, [], ◌∷◌, ◌++◌, length, Option, Some, None, is_some, Result, Ok, Err}
 use Rattle.rand_core.specs.Stream.{Stream}
 use Rattle.acra_base.specs.Causes.{Rose}
 use Rattle.keys_core.specs.declared.status.KeyFile.TheVariants as files
@@ -61,11 +61,12 @@ abbrev pub IsKept : Option (List ℕ) → List (List ℕ) → List (List ℕ) �
 IsKept None k k' = k' ≡ k
 IsKept (Some piece) k k' = k' ≡ piece ∷ []
 
--- a front of the line was printed
+-- a front of the line was printed, and not all of it
 pub record FrontPrinted (line h h' : List ℕ) : Type 0 where
   pub front : List ℕ
   pub more : List ℕ
   pub parts : front ++ more ≡ line
+  pub less : 0 < length more
   pub printed : h' ≡ h ++ front
 
 abbrev pub FinishedAs : KeysStatus → Work → List (List ℕ) → List (List ℕ) → List ℕ → List ℕ → Type 0

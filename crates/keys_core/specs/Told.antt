@@ -1,5 +1,5 @@
 -- What is told of a random device before and after.
-use Rattle.std.specs.Prelude.{ℕ, ◌≡◌, List, Option, Some, None, Result, Ok, Err}
+use Rattle.std.specs.Prelude.{◌≡◌, Option, Some, None, Result, Ok, Err}
 use Rattle.rand_core.specs.Stream.{Stream}
 use Rattle.keystore.specs.Rings.{RingState}
 use Rattle.keys_core.specs.declared.status.RingTrouble.{RingTrouble}

@@ -1,5 +1,5 @@
 -- What the key tool does, where no device fails and there is memory.
-use Rattle.std.specs.Prelude.{ℕ, ◌-◌, ◌^◌, nat_le, nat_lt, ◌==◌, ◌&&◌, Bool, true, false, if◌then◌else◌, List, [], ◌∷◌, ◌++◌, length, take, drop, codes, Option, Some, None, Result, Ok, Err}
+use Rattle.std.specs.Prelude.{ℕ, ◌-◌, ◌^◌, nat_lt, ◌==◌, ◌&&◌, Bool, true, false, if◌then◌else◌, List, [], ◌++◌, length, take, drop, codes, Option, Some, None, Result, Ok, Err}
 use Rattle.rand_core.specs.Stream.{Stream, fill_bytes}
 use Rattle.acra_crypto.specs.Gcm.{aes256_gcm, aes256_gcm_opened}
 use Rattle.keystore.specs.declared.keys.NewKeys.{NewKeys}
@@ -12,6 +12,7 @@ use Rattle.keystore.specs.Answers.{add_refusal, with_client, retire_refusal, wit
 use Rattle.ring_file.specs.Form.{ring_file}
 use Rattle.ring_file.specs.Reading.{ring_read}
 use Rattle.ring_file.specs.Files.{file_body}
+use Rattle.key_files.specs.Master.{master_of}
 use Rattle.keys_core.specs.declared.words.Ask.{Ask}
 use Rattle.keys_core.specs.declared.words.Ask.TheVariants as asks
 use Rattle.keys_core.specs.declared.status.RingTrouble.{RingTrouble}
@@ -24,7 +25,6 @@ use Rattle.keys_core.specs.declared.work.Work.{Work}
 use Rattle.keys_core.specs.declared.work.Outcome.{Outcome}
 use Rattle.keys_core.specs.declared.work.Outcome.TheVariants as outcomes
 use Rattle.keys_core.specs.Lines.{key_then, newline, ring_lines, check_line, refused_line}
-use Rattle.keys_core.specs.Master.{master_of}
 
 -- ---- the ring
 
@@ -51,11 +51,14 @@ makes_ring (asks.Destroy who id) = false
 makes_ring asks.Check = false
 
 -- an empty file is a new ring for `generate`
-abbrev pub opened_ring : Bool → List ℕ → List ℕ → Stream → Result RingState RingTrouble × Stream
-opened_ring makes master bytes s =
-    if nat_lt (2 ^ 24) (length bytes) then (Err trouble.TooLong, s)
-    else if makes && (length bytes == 0) then (let own = fill_bytes 96 s in (Ok (new_ring own.0), own.1))
+abbrev pub made_or_read : Bool → List ℕ → List ℕ → Stream → Result RingState RingTrouble × Stream
+made_or_read makes master bytes s =
+    if makes && (length bytes == 0) then (let own = fill_bytes 96 s in (Ok (new_ring own.0), own.1))
     else (read_file master bytes, s)
+
+-- a file has at most 2^24 bytes
+abbrev pub opened_ring : Bool → List ℕ → List ℕ → Stream → Result RingState RingTrouble × Stream
+opened_ring makes master bytes s = if nat_lt (2 ^ 24) (length bytes) then (Err trouble.TooLong, s) else made_or_read makes master bytes s
 
 -- ---- the work
 

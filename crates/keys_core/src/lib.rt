@@ -2,9 +2,7 @@
 #![tactic(auto)]
 
 mod lines;
-mod master;
 mod opening;
-mod reading;
 mod status;
 mod top;
 mod words;

@@ -1,7 +1,8 @@
-ghost use Rattle.std.specs.Prelude.{◌≡◌, ◌≤◌, [], take, drop, IfErr};
+ghost use Rattle.std.specs.Prelude.{◌≡◌, ◌≤◌, [], take, drop, IfOk, IfErr};
 ghost use Rattle.acra_base.specs.Causes.{Rose};
 ghost use Rattle.keystore.specs.Rings.{RingState};
-ghost use Rattle.keys_core.specs.Work.{new_ring, opened_ring, read_file};
+ghost use Rattle.ring_file.specs.Form.{IsFileRing};
+ghost use Rattle.keys_core.specs.Work.{new_ring, made_or_read, read_file};
 ghost use Rattle.keys_core.specs.Told.{Drew, OpensAs};
 ghost use Rattle.keys_core.specs.declared.opening.Shut.TheVariants as shut;
 
@@ -11,9 +12,6 @@ use acra_crypto::Aes256Gcm;
 use keystore::Ring;
 use ring_file::{RingFault, read_ring};
 use std::alloc::Global;
-
-/// The most bytes of a ring's file.
-pub const RING_LIMIT: usize = 1 << 24;
 
 /// Why there is no ring.
 #[derive(Clone, Copy, Debug, PartialEq, Eq)]
@@ -47,13 +45,11 @@ pub fn open_ring<R: Random>(
     bytes: &[u8],
     random: &mut R,
 ) -> Result<Ring, Shut>
-    ensures opened { Drew (R.coming random.old) (R.coming random.new) (λ s t. OpensAs result t (opened_ring makes master.now bytes.now s)) }
+    ensures opened { Drew (R.coming random.old) (R.coming random.new) (λ s t. OpensAs result t (made_or_read makes master.now bytes.now s)) }
+    ensures rules { IfOk result (λ ring. IsFileRing ring) }
     ensures later { R.draw_faults random.old ≤ R.draw_faults random.new }
     ensures cause { IfErr result (λ why. why ≡ shut.RandomFault → Rose (R.draw_faults random.old) (R.draw_faults random.new)) }
 {
-    if bytes.len() > RING_LIMIT {
-        return Err(Shut::Trouble(RingTrouble::TooLong));
-    }
     if makes && bytes.is_empty() {
         let mut drawn = [0; 96];
         if random.draw(&mut drawn).is_err() {

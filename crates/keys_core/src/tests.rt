@@ -46,25 +46,24 @@ fn run(
     Ok(status)
 }
 
+fn refused(why: Refusal) -> KeysStatus {
+    KeysStatus::Refused { why }
+}
+
 #[test]
 fn the_key_tool(rt: HostRuntime) -> Result<(), Fail> {
     let alloc = rt.alloc();
     let mut ring = Vec::new(alloc);
     let mut random = SureRandom::new(1);
     let mut printed = Vec::new(alloc);
-    let exists = KeysStatus::Refused {
-        why: Refusal::Exists,
-    };
-    let not_swept = KeysStatus::Refused {
-        why: Refusal::NotSwept,
-    };
-    let no_such_key = KeysStatus::Refused {
-        why: Refusal::NoSuchKey,
-    };
+    let done = KeysStatus::Done;
+    let exists = refused(Refusal::Exists);
+    let not_swept = refused(Refusal::NotSwept);
+    let no_key = refused(Refusal::NoSuchKey);
     let cases: [(&[&str], KeysStatus, u8, &[u8]); 8] = [
-        (&["generate", "app"], KeysStatus::Done, 0, b"app 1\n"),
+        (&["generate", "app"], done, 0, b"app 1\n"),
         (&["generate", "app"], exists, 3, b"refused exists\n"),
-        (&["list"], KeysStatus::Done, 0, b"app 1 current\n"),
+        (&["list"], done, 0, b"app 1 current\n"),
         (
             &["destroy", "app", "1"],
             not_swept,
@@ -73,66 +72,74 @@ fn the_key_tool(rt: HostRuntime) -> Result<(), Fail> {
         ),
         (
             &["destroy", "app", "7"],
-            no_such_key,
+            no_key,
             3,
             b"refused no-such-key\n",
         ),
-        (&["check"], KeysStatus::Done, 0, b"clients 1 keys 1\n"),
+        (&["check"], done, 0, b"clients 1 keys 1\n"),
         (&["destroy", "app", "01x"], KeysStatus::Usage, 1, b""),
         (&[], KeysStatus::Usage, 1, b""),
     ];
-    for (texts, status, code, text) in cases {
+    'cases: for (texts, status, code, text) in cases {
         let found = run(alloc, texts, MASTER, &mut ring, &mut random, &mut printed)?;
         assert_eq!(rt; found, status, "{texts:?}");
         assert_eq!(rt; found.code(), code, "{texts:?}");
         assert_eq!(rt; printed.as_slice(), text, "{texts:?}");
     }
+    Ok(())
+}
 
-    let not_sealed = KeysStatus::RingRefused {
-        why: RingTrouble::NotSealed,
-    };
-    let other = b"0000000000000000000000000000000000000000000000000000000000000000";
-    let found = run(
+/// The ring's file of a client whose two keys are both current, as Python's cryptography 48.0 seals it under
+/// the master key.
+const TWO_CURRENT: &str =
+    "414b5231404142434445464748494a4be3b8af22273d8602ccc516379a65125a78c7535db6340e2276464fe4\
+    9612ecda9a0af1aedcbbdd5623f6096d930fddd8c973a83331c5e00b8318d60625e82ac2e710d6a907dd28a9\
+    54c26086957bff6b4d7b51c82869178c74d5263c18032756b4f37aea880067c0491296dac7bbf6088cbb59ea\
+    af9b7679d3bab1e06cac46c7b3076ac102357d83f77fdcacb85b69ceb1c8b39042f3fcb72f5280f89da07f48\
+    f8cdfd1f7bb603062c30afd19327f7d7cf128521c10543869cdf36e2c0fca61448f63e996a21c3a913de1631\
+    463e6b5733a54a4d1128443e33f5c0c58294ca1908d216182cca2990181359c8dc14da509b7c";
+
+/// How `check` ends on a ring's file, and what it says then.
+fn checked(alloc: Global, master: &[u8], file: &[u8]) -> Result<(KeysStatus, String), Fail> {
+    let mut ring = Vec::from_slice(alloc, file)?;
+    let mut random = SureRandom::new(1);
+    let mut printed = Vec::new(alloc);
+    let status = run(
         alloc,
         &["check"],
-        other,
+        master,
         &mut ring,
         &mut random,
         &mut printed,
     )?;
-    assert_eq!(rt; found, not_sealed);
-    if let Some(byte) = ring.last_mut() {
+    Ok((status, format!(in alloc; "{status}")?))
+}
+
+#[test]
+fn files_that_are_refused(rt: HostRuntime) -> Result<(), Fail> {
+    let alloc = rt.alloc();
+    let two = hex::decode(alloc, TWO_CURRENT).ok().ok_or("no digits")?;
+    let mut changed = Vec::from_slice(alloc, &two)?;
+    if let Some(byte) = changed.last_mut() {
         *byte ^= 1;
     }
-    let found = run(
-        alloc,
-        &["check"],
-        MASTER,
-        &mut ring,
-        &mut random,
-        &mut printed,
-    )?;
-    assert_eq!(rt; found, not_sealed);
-    let mut none = Vec::new(alloc);
-    let found = run(
-        alloc,
-        &["list"],
-        MASTER,
-        &mut none,
-        &mut random,
-        &mut printed,
-    )?;
-    assert_eq!(rt; found, not_sealed);
-    let short = &MASTER[..63];
-    let found = run(
-        alloc,
-        &["list"],
-        short,
-        &mut ring,
-        &mut random,
-        &mut printed,
-    )?;
-    assert_eq!(rt; found, KeysStatus::BadMaster);
+    let other = b"0000000000000000000000000000000000000000000000000000000000000000";
+    // The phase of the first key stands at byte 152, where no key is current that another follows.
+    let no_ring = "RingRefused: keystore: its content is no ring, at byte 152";
+    let not_sealed = "RingRefused: keystore: it does not open with this master key";
+    let bad_master = "BadMaster: master: it is not 64 hexadecimal digits";
+    let cases: [(&[u8], &[u8], &str); 5] = [
+        (MASTER, &two, no_ring),
+        (MASTER, &changed, not_sealed),
+        (other, &two, not_sealed),
+        (MASTER, b"", not_sealed),
+        (&MASTER[..63], &two, bad_master),
+    ];
+    'cases: for (master, file, text) in cases {
+        let (status, said) = checked(alloc, master, file)?;
+        assert_eq!(rt; status.code(), 2, "{text}");
+        assert_eq!(rt; said.as_str(), text);
+    }
     Ok(())
 }
 

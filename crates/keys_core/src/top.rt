@@ -1,24 +1,25 @@
-ghost use Rattle.std.specs.Prelude.{◌≡◌, ◌≤◌, ◌↔◌, ℕ, List, map, string_bytes, true, Option, Some, None, is_some, IfErr, MatchResult};
+ghost use Rattle.std.specs.Prelude.{◌≡◌, ◌≤◌, ◌↔◌, ℕ, List, map, string_bytes, true, Option, Some, None, is_some, IfOk, IfErr, MatchResult};
 ghost use Rattle.rand_core.specs.Stream.{Stream};
 ghost use Rattle.keys_core.specs.Words.{asked};
-ghost use Rattle.keys_core.specs.Master.{master_of};
-ghost use Rattle.keys_core.specs.Work.{makes_ring, opened_ring, run_with, run_of};
+ghost use Rattle.key_files.specs.Master.{master_of};
+ghost use Rattle.keys_core.specs.Work.{makes_ring, made_or_read, run_with, run_of};
+ghost use Rattle.keys_core.specs.Again.{changes, HasFile, MakesFile, KeepsRing};
 ghost use Rattle.keys_core.specs.Runs.{CausedBy, StopCaused, FinishCaused, MasterAs, PreparedAs, IsKept, FinishedAs, WhereTold, IsRun};
 ghost use Rattle.acra_base.specs.Causes.{HasCause};
 ghost use Rattle.keys_core.specs.declared.words.Ask.{Ask};
 ghost use Rattle.keys_core.specs.declared.status.KeysStatus.TheVariants as ends;
+ghost use Rattle.keys_core.specs.declared.work.Outcome.TheVariants as outcomes;
 
-use crate::master::master_key;
-use crate::opening::{RING_LIMIT, Shut, open_ring};
-use crate::reading::{Unread, read_up_to};
-use crate::status::{KeyFile, KeysStatus};
+use crate::opening::{Shut, open_ring};
+use crate::status::{KeyFile, KeysStatus, RingTrouble};
 use crate::words::{Ask, ask_of};
 use crate::work::{Outcome, Stop, Work, done_work};
 use acra_base::{Bytes, Failed, Keeper, Random, Sink, Source, write_whole};
+use key_files::{MasterFault, WholeFault, read_master, read_whole};
 use std::alloc::Global;
 
-/// 64 digits and a newline.
-const MASTER_LIMIT: usize = 65;
+/// The most bytes of a ring's file.
+const RING_LIMIT: usize = 1 << 24;
 
 fn makes_ring(ask: &Ask) -> bool
     ensures { result ≡ makes_ring ask.now }
@@ -32,19 +33,17 @@ fn makes_ring(ask: &Ask) -> bool
 }
 
 /// The master key.
-fn read_master<S: Source>(alloc: Global, master: &mut S) -> Result<[u8; 32], KeysStatus>
+fn master_key<S: Source>(alloc: Global, master: &mut S) -> Result<[u8; 32], KeysStatus>
     ensures key { (m : List ℕ) → S.left master.old ≡ Some m → is_some (S.left master.new) ≡ true → MasterAs result (master_of m) }
     ensures cause { IfErr result (λ status. StopCaused status (S.read_faults master.old) (S.read_faults master.new) 0 0 0 0) }
 {
-    match read_up_to(alloc, master, MASTER_LIMIT) {
-        Ok(text) => match master_key(text.as_slice()) {
-            Some(key) => Ok(key),
-            None => Err(KeysStatus::BadMaster),
-        },
-        Err(Unread::Fault) => Err(KeysStatus::ReadFault {
+    match read_master(alloc, master) {
+        Ok(key) => Ok(key),
+        Err(MasterFault::NoKey) => Err(KeysStatus::BadMaster),
+        Err(MasterFault::ReadFault) => Err(KeysStatus::ReadFault {
             file: KeyFile::Master,
         }),
-        Err(Unread::NoMemory) => Err(KeysStatus::NoMemory),
+        Err(MasterFault::NoMemory) => Err(KeysStatus::NoMemory),
     }
 }
 
@@ -56,7 +55,8 @@ fn worked<R: Random>(
     bytes: &[u8],
     random: &mut R,
 ) -> Result<Work, KeysStatus>
-    ensures run { (s t : Stream) → R.coming random.old ≡ Some s → R.coming random.new ≡ Some t → PreparedAs result (run_with ask.now key.now (opened_ring (makes_ring ask.now) key.now bytes.now s)) s t }
+    ensures run { (s t : Stream) → R.coming random.old ≡ Some s → R.coming random.new ≡ Some t → PreparedAs result (run_with ask.now key.now (made_or_read (makes_ring ask.now) key.now bytes.now s)) s t }
+    ensures kept { changes ask.now ≡ true → IfOk result (λ w. MakesFile key.now w) }
     ensures cause { IfErr result (λ status. StopCaused status 0 0 0 0 (R.draw_faults random.old) (R.draw_faults random.new)) }
     ensures later { R.draw_faults random.old ≤ R.draw_faults random.new }
 {
@@ -86,15 +86,19 @@ fn prepare<S: Source, T: Source, R: Random>(
 ) -> Result<Work, KeysStatus>
     ensures run { (m r : List ℕ) (s t : Stream) → S.left master.old ≡ Some m → is_some (S.left master.new) ≡ true → T.left ring.old ≡ Some r → is_some (T.left ring.new) ≡ true
         → R.coming random.old ≡ Some s → R.coming random.new ≡ Some t → PreparedAs result (run_of ask.now m r s) s t }
+    ensures kept { (m : List ℕ) → S.left master.old ≡ Some m → is_some (S.left master.new) ≡ true → changes ask.now ≡ true → IfOk result (λ w. (key : List ℕ) × ((master_of m ≡ Some key) × MakesFile key w)) }
     ensures cause { IfErr result (λ status. StopCaused status (S.read_faults master.old) (S.read_faults master.new) (T.read_faults ring.old) (T.read_faults ring.new) (R.draw_faults random.old) (R.draw_faults random.new)) }
 {
-    match read_master(alloc, master) {
-        Ok(key) => match read_up_to(alloc, ring, RING_LIMIT) {
+    match master_key(alloc, master) {
+        Ok(key) => match read_whole(alloc, ring, RING_LIMIT) {
             Ok(bytes) => worked(alloc, ask, &key, bytes.as_slice(), random),
-            Err(Unread::Fault) => Err(KeysStatus::ReadFault {
+            Err(WholeFault::TooLong) => Err(KeysStatus::RingRefused {
+                why: RingTrouble::TooLong,
+            }),
+            Err(WholeFault::ReadFault) => Err(KeysStatus::ReadFault {
                 file: KeyFile::Ring,
             }),
-            Err(Unread::NoMemory) => Err(KeysStatus::NoMemory),
+            Err(WholeFault::NoMemory) => Err(KeysStatus::NoMemory),
         },
         Err(status) => Err(status),
     }
@@ -115,6 +119,7 @@ fn keep<K: Keeper>(file: &Option<Bytes>, keeper: &mut K) -> Result<(), Failed>
 fn finish<K: Keeper, W: Sink>(work: &Work, keeper: &mut K, output: &mut W) -> KeysStatus
     ensures done { (k k' : List (List ℕ)) (h h' : List ℕ) → K.kept keeper.old ≡ Some k → K.kept keeper.new ≡ Some k' → W.held output.old ≡ Some h → W.held output.new ≡ Some h'
         → FinishedAs result work.now k k' h h' }
+    ensures kept { result ≡ ends.Done → (k k' : List (List ℕ)) → K.kept keeper.old ≡ Some k → K.kept keeper.new ≡ Some k' → (work.now.outcome ≡ outcomes.Done) × IsKept work.now.file k k' }
     ensures cause { FinishCaused result (K.keeper_faults keeper.old) (K.keeper_faults keeper.new) (W.write_faults output.old) (W.write_faults output.new) }
 {
     match keep(&work.file, keeper) {
@@ -145,6 +150,8 @@ pub fn keys_top<S: Source, T: Source, K: Keeper, R: Random, W: Sink>(
     ensures exact { (ask : Ask) → asked (map string_bytes words.now) ≡ Some ask → WhereTold (S.left master.old) (S.left master.new) (T.left ring.old) (T.left ring.new)
         (K.kept keeper.old) (K.kept keeper.new) (R.coming random.old) (R.coming random.new) (W.held output.old) (W.held output.new)
         (λ m r. λ s. IsRun result (run_of ask m r s) s) }
+    ensures reads_back { (ask : Ask) (m : List ℕ) (k k' : List (List ℕ)) → asked (map string_bytes words.now) ≡ Some ask → changes ask ≡ true → result ≡ ends.Done → S.left master.old ≡ Some m → is_some (S.left master.new) ≡ true
+        → K.kept keeper.old ≡ Some k → K.kept keeper.new ≡ Some k' → KeepsRing m k' }
     ensures cause { CausedBy result (S.read_faults master.old) (S.read_faults master.new) (T.read_faults ring.old) (T.read_faults ring.new) (K.keeper_faults keeper.old) (K.keeper_faults keeper.new)
         (R.draw_faults random.old) (R.draw_faults random.new) (W.write_faults output.old) (W.write_faults output.new) }
 {

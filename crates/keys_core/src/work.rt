@@ -1,7 +1,10 @@
-ghost use Rattle.std.specs.Prelude.{◌≡◌, ◌≤◌, ◌++◌, take, drop, codes, Some, None, IfOk, IfErr};
+ghost use Rattle.std.specs.Prelude.{◌≡◌, ◌≤◌, ◌++◌, take, drop, codes, true, Some, None, IfOk, IfErr};
 ghost use Rattle.acra_base.specs.Causes.{Rose};
 ghost use Rattle.keys_core.specs.Work.{refused, changed_by, shown, new_keys, generated, destroyed_by, work_of};
 ghost use Rattle.keystore.specs.Answers.{retire_refusal};
+ghost use Rattle.keystore.specs.Kept.{IsKept};
+ghost use Rattle.ring_file.specs.Form.{IsFileRing};
+ghost use Rattle.keys_core.specs.Again.{changes, HasFile, MakesFile};
 ghost use Rattle.keys_core.specs.Told.{Drew};
 ghost use Rattle.keys_core.specs.declared.work.Stop.TheVariants as stop;
 
@@ -83,6 +86,7 @@ fn changed<R: Random>(
 ) -> Result<Work, Stop>
     ensures done { IfOk result (λ w. Drew (R.coming random.old) (R.coming random.new)
         (λ s t. (w, t) ≡ changed_by line.items master.now ring.now s)) }
+    ensures kept { (IsKept ring.now → IsFileRing ring.now) → IfOk result (λ w. HasFile master.now w) }
     ensures later { R.draw_faults random.old ≤ R.draw_faults random.new }
     ensures cause { IfErr result (λ why. why ≡ stop.RandomFault → Rose (R.draw_faults random.old) (R.draw_faults random.new)) }
 {
@@ -120,6 +124,7 @@ fn generate<R: Random>(
     random: &mut R,
 ) -> Result<Work, Stop>
     ensures done { IfOk result (λ w. Drew (R.coming random.old) (R.coming random.new) (λ s t. (w, t) ≡ generated who.now master.now ring.old s)) }
+    ensures kept { IsFileRing ring.old → IfOk result (λ w. MakesFile master.now w) }
     ensures later { R.draw_faults random.old ≤ R.draw_faults random.new }
     ensures cause { IfErr result (λ why. why ≡ stop.RandomFault → Rose (R.draw_faults random.old) (R.draw_faults random.new)) }
 {
@@ -127,6 +132,7 @@ fn generate<R: Random>(
     if random.draw(&mut drawn).is_err() {
         return Err(Stop::RandomFault);
     }
+    who.is_spelled();
     match ring.add_client(who, new_keys(&drawn)) {
         Ok(id) => match key_line(alloc, &[], who, id) {
             Ok(line) => changed(alloc, line, master, ring, random),
@@ -147,6 +153,7 @@ fn destroy<R: Random>(
     random: &mut R,
 ) -> Result<Work, Stop>
     ensures done { IfOk result (λ w. Drew (R.coming random.old) (R.coming random.new) (λ s t. (w, t) ≡ destroyed_by (retire_refusal ring.old who.now id) who.now id master.now ring.old s)) }
+    ensures kept { IsFileRing ring.old → IfOk result (λ w. MakesFile master.now w) }
     ensures later { R.draw_faults random.old ≤ R.draw_faults random.new }
     ensures cause { IfErr result (λ why. why ≡ stop.RandomFault → Rose (R.draw_faults random.old) (R.draw_faults random.new)) }
 {
@@ -171,6 +178,7 @@ pub fn done_work<R: Random>(
     random: &mut R,
 ) -> Result<Work, Stop>
     ensures done { IfOk result (λ w. Drew (R.coming random.old) (R.coming random.new) (λ s t. (w, t) ≡ work_of ask.now master.now ring.old s)) }
+    ensures kept { IsFileRing ring.old → changes ask.now ≡ true → IfOk result (λ w. MakesFile master.now w) }
     ensures later { R.draw_faults random.old ≤ R.draw_faults random.new }
     ensures cause { IfErr result (λ why. why ≡ stop.RandomFault → Rose (R.draw_faults random.old) (R.draw_faults random.new)) }
 {

@@ -1,5 +1,6 @@
 ghost use Rattle.std.specs.Prelude.{◌≡◌, ◌++◌, ℕ, List, length, OnOk, OnErr, IfOk, nat_eq};
 ghost use Rattle.std.specs.Cmp.Lexicographic.{pointwise};
+ghost use Rattle.keystore.specs.Kept.{IsKept};
 ghost use Rattle.keystore.specs.Rings.{RingState};
 ghost use Rattle.ring_file.specs.Form.{mark, ring_body, ring_file, IsFileRing};
 ghost use Rattle.ring_file.specs.Files.{file_body, IsReadBody, IsReadFile, SpellsRing, ReadsAs};
@@ -42,6 +43,7 @@ pub fn write_ring<A: Aead>(
 ) -> Result<(), NoMemory>
     ensures ok { OnOk result (out.new.items ≡ out.old.items ++ ring_file (A.sealed aead.now) master.now draws.now ring.now) }
     ensures err { OnErr result (out.new.items ≡ out.old.items) }
+    ensures kept { OnOk result (IsKept ring.now) }
 {
     let body = body_of(alloc, ring)?;
     let mut file = Vec::new(alloc);

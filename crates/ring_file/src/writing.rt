@@ -1,5 +1,6 @@
 ghost use Rattle.std.specs.Prelude.{◌≡◌, ◌≤◌, ◌<◌, ◌++◌, length, IfOk, OnOk};
 ghost use Rattle.std.specs.List.{AllByRecursion, flat_map};
+ghost use Rattle.keystore.specs.Kept.{IsKept};
 ghost use Rattle.ring_file.specs.Form.{key_bytes, old_bytes, client_bytes, ring_body};
 
 use acra_base::NoMemory;
@@ -52,7 +53,8 @@ fn put_clients(out: &mut Vec<u8>, clients: &[Client]) -> Result<(), NoMemory>
 
 /// The body of a ring's file.
 pub fn body_of(alloc: Global, ring: &Ring) -> Result<Vec<u8>, NoMemory>
-    ensures { IfOk result (λ body. body.items ≡ ring_body ring.now) }
+    ensures value { IfOk result (λ body. body.items ≡ ring_body ring.now) }
+    ensures kept { OnOk result (IsKept ring.now) }
 {
     let clients = ring.clients();
     let mut body = Vec::new(alloc);

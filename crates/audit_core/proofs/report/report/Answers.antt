@@ -1,4 +1,4 @@
-use Rattle.audit_core.proofs.Wholly.{where_map}
+use Rattle.audit_core.proofs.Told.{where_map}
 use Rattle.audit_core.proofs.Reporting.{valid_reported, valid_due, broken_reported, broken_due, long_reported, long_due, spent_reported, spent_due}
 use Rattle.audit_core.proofs.report.report.Goals as goal
 

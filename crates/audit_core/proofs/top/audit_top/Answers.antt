@@ -1,5 +1,5 @@
 use Rattle.std.proofs.Common.{List, ℕ}
-use Rattle.audit_core.proofs.Wholly.{where_map, where_all, where_both}
+use Rattle.audit_core.proofs.Told.{where_map, where_all, where_both}
 use Rattle.audit_core.proofs.Ending.{refused_due, reported_due}
 use Rattle.audit_core.proofs.top.audit_top.Goals as goal
 

@@ -1,10 +1,9 @@
-use Rattle.std.proofs.Common.{◌≡◌, ℕ, List, Option, Some, None, refl, sym, ap, subst, ◌∙◌}
-use Rattle.std.specs.Prelude.{map, string_bytes}
+use Rattle.std.proofs.Common.{◌≡◌, refl, sym, ap, subst, ◌∙◌}
 use Rattle.keys_core.specs.declared.words.Ask.{Ask}
-use Rattle.keys_core.specs.Words.{asked}
 use Rattle.keys_core.specs.Work.{run_of}
 use Rattle.keys_core.specs.Runs.{IsRun}
-use Rattle.keys_core.proofs.Runs.{same_told, stop_run, finish_run, stop_cause, finish_cause, finish_no_usage, stop_no_usage, some_none}
+use Rattle.keys_core.specs.Again.{changes}
+use Rattle.keys_core.proofs.Runs.{same_told, stop_run, finish_run, stop_cause, finish_cause, finish_no_usage, stop_no_usage, stop_no_done, keeps_ring, some_none}
 use Rattle.keys_core.proofs.top.keys_top.Goals as goal
 
 pub returns-in-None-clause-usage : goal.returns-in-None-clause-usage
@@ -36,3 +35,16 @@ returns-in-Err-clause-exact g c ask e m r s t k k' h h' em em' er er' es et ek e
 
 pub returns-in-Err-clause-cause : goal.returns-in-Err-clause-cause
 returns-in-Err-clause-cause g c = stop_cause _ _ _ _ _ _ _ _ _ _ c.in-Err.status c.in-Err.ensures.cause
+
+pub returns-in-None-clause-reads_back : goal.returns-in-None-clause-reads_back
+returns-in-None-clause-reads_back g c ask m k k' e changed done em em' ek ek' = some_none _ ask (sym e) (sym c.in-None.ensures)
+
+pub returns-in-Ok-clause-reads_back : goal.returns-in-Ok-clause-reads_back
+returns-in-Ok-clause-reads_back g c ask m k k' e changed done em em' ek ek' =
+    let same : c.in-Some.ask ≡ ask = sym (same_told _ c.in-Some.ask ask (sym c.in-Some.ensures) e) in
+    let work = c.in-Ok.ensures.kept m em em' (ap changes same ∙ changed) in
+    let kept = c.finish.ensures.kept done k k' ek ek' in
+    keeps_ring m work.0 c.in-Ok.work.file k k' work.1.0 (work.1.1 kept.0) kept.1
+
+pub returns-in-Err-clause-reads_back : goal.returns-in-Err-clause-reads_back
+returns-in-Err-clause-reads_back g c ask m k k' e changed done em em' ek ek' = absurd (stop_no_done _ _ _ _ _ _ c.in-Err.status c.in-Err.ensures.cause done)

@@ -1,9 +1,7 @@
-//! Reading a file whole, where it isn't too long.
-
-ghost use Rattle.std.specs.Prelude.{◌≡◌, ◌≤◌, IsErrOf};
+ghost use Rattle.std.specs.Prelude.{◌≡◌, ◌≤◌, ℕ, List, Some, true, is_some, length, OnOk, IfOk, IsErrOf};
 ghost use Rattle.acra_base.specs.Causes.{Rose};
-ghost use Rattle.audit_chain.specs.Verdicts.{WhereRead};
-ghost use Rattle.audit_core.specs.Whole.{IsWholly};
+ghost use Rattle.acra_base.specs.Known.{IsAtEnd};
+ghost use Rattle.key_files.specs.Whole.{IsWholly};
 
 use acra_base::{Bytes, Source};
 use std::alloc::Global;
@@ -19,13 +17,15 @@ pub enum WholeFault {
     NoMemory,
 }
 
-/// All bytes of a source that has at most `limit`.
+/// All bytes that are left of a source, where they are at most `limit`.
 pub fn read_whole<S: Source>(
     alloc: Global,
     source: &mut S,
     limit: usize,
 ) -> Result<Bytes, WholeFault>
-    ensures whole { WhereRead (S.left source.old) (S.left source.new) (IsWholly limit result) }
+    ensures whole { (file : List ℕ) → S.left source.old ≡ Some file → is_some (S.left source.new) ≡ true → IsWholly limit result file }
+    ensures within { IfOk result (λ bytes. length bytes ≤ limit) }
+    ensures end { OnOk result (IsAtEnd (S.left source.new)) }
     ensures later { S.read_faults source.old ≤ S.read_faults source.new }
     ensures fault { IsErrOf result WholeFault.ReadFault → Rose (S.read_faults source.old) (S.read_faults source.new) }
 {

@@ -247,6 +247,23 @@ untouched (Some client) (Some before) = (refl, refl)
 untouched None held = tt
 untouched (Some client) None = tt
 
+-- for want of memory nothing was read or written
+pub unmade : (name : List ℕ) (seed : ℕ) (left held : Option (List ℕ)) → WhereTold left left held held (Headline name seed ends.NoMemory)
+unmade name seed (Some client) (Some before) = record {
+  answered = [];
+  begun = [];
+  rest = [];
+  whole = refl;
+  each = tt;
+  one = omega arith;
+  behind = [];
+  more = [];
+  replies = refl;
+  sent = sym (append-nil before);
+}
+unmade name seed None held = tt
+unmade name seed (Some client) None = tt
+
 -- ---- words
 
 -- the words name one client and one seed

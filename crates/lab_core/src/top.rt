@@ -5,7 +5,7 @@ ghost use Rattle.lab_core.specs.Headline.{WhereTold, Headline, IsDue, Untouched}
 
 use crate::words::session_words;
 use acra_base::{Sink, Source};
-use lab_session::{Status, client_key, first_session};
+use lab_session::{Status, client_ring, first_session};
 use std::alloc::Global;
 use table_machine::{LabBackend, Tables};
 
@@ -28,18 +28,20 @@ pub fn lab_top<S: Source, K: Sink>(
 {
     match session_words(words) {
         None => Status::Usage,
-        Some((client, seed)) => {
-            let (key, mut random) = client_key(client, seed);
-            let mut backend = LabBackend::new(alloc, Tables::new(alloc), 1);
-            first_session(
-                alloc,
-                input,
-                output,
-                &mut random,
-                &client,
-                &key,
-                &mut backend,
-            )
-        }
+        Some((client, seed)) => match client_ring(alloc, &client, seed) {
+            Err(_) => Status::NoMemory,
+            Ok((mut ring, mut random)) => {
+                let mut backend = LabBackend::new(alloc, Tables::new(alloc), 1);
+                first_session(
+                    alloc,
+                    input,
+                    output,
+                    &mut random,
+                    &client,
+                    &mut ring,
+                    &mut backend,
+                )
+            }
+        },
     }
 }

@@ -41,7 +41,8 @@ use Rattle.plain_tables.specs.Shown.{shown_message}
 use Rattle.plain_tables.proofs.Carried.{rows_stored}
 use Rattle.plain_tables.proofs.Shows.{reply_shown}
 use Rattle.acra_block.specs.Keys.{Key}
-use Rattle.lab_session.specs.Cells.{IsUsable, IsStored, opened_text}
+use Rattle.acra_block.specs.declared.keys.KeyView.{KeyView}
+use Rattle.lab_session.specs.Cells.{HasKey, IsStored, opened_by}
 use Rattle.lab_session.specs.Runs.{State, written, cell_for, drawn_for, state_after, answer}
 use Rattle.lab_session.specs.Session.{SentFront, Rests}
 use Rattle.lab_session.specs.Relaying.{IsIdle, CanSend, ForwardGives, Sends}
@@ -74,12 +75,12 @@ bytes_again cell h = ap result_ok (decode_of-encode_lower cell h)
 -- ---- a statement
 
 module _ (keys : Key) (s : State) (lab : Lab) (text : List ℕ) (tree : Statement) (ps : List Bool) (rests : Rests keys lab s false) (is : IsStatement tree) (short : has_short_strings tree ≡ true) (bytes : IsBytes (cell_for keys s.coming (written tree)))
-    (protected : ps ≡ protected_of tree) (usable : IsUsable keys) where
+    (protected : ps ≡ protected_of tree) (view : KeyView) (has : HasKey view keys) where
   abbrev cell : List ℕ
   cell = cell_for keys s.coming (written tree)
 
   abbrev show : Back → Back
-  show = shown_message (opened_text keys) ps
+  show = shown_message (opened_by view) ps
 
   abbrev request : Request
   request = Request.Asks text tree
@@ -98,8 +99,8 @@ module _ (keys : Key) (s : State) (lab : Lab) (text : List ℕ) (tree : Statemen
   pub shown_is : (messages : List Back) (after : List (List Cell)) → Answers (sent_text keys s.coming tree) lab.rows messages after → reply_bytes (map show messages) ≡ answer keys s request
   shown_is messages after a =
       ap (λ (ms : List Back). reply_bytes (map show ms)) ((answered_by messages after a).0 ∙ ap (λ (rows : List (List Cell)). messages_of (executed (rewritten cell tree) rows) ++ ready ∷ []) rests.stand.same)
-      ∙ ap (λ (qs : List Bool). reply_bytes (map (shown_message (opened_text keys) qs) (messages_of (executed (rewritten cell tree) (stored_rows s.rows)) ++ ready ∷ []))) protected
-      ∙ ap reply_bytes (reply_shown keys.owner (opened_text keys) cell tree s.rows is (bytes_again cell bytes) (rows_open keys usable s.rows rests.stand.meant))
+      ∙ ap (λ (qs : List Bool). reply_bytes (map (shown_message (opened_by view) qs) (messages_of (executed (rewritten cell tree) (stored_rows s.rows)) ++ ready ∷ []))) protected
+      ∙ ap reply_bytes (reply_shown keys.owner (opened_by view) cell tree s.rows is (bytes_again cell bytes) (rows_open keys view has s.rows rests.stand.meant))
 
   pub statement_answered : {T E : Type 0} (result : Result T E) (g' : ChaCha) (lab' : Lab) (old new : Option (List ℕ)) → ForwardGives show lab (fronts.Query (sent_text keys s.coming tree)) result lab' old new → g' ≡ drawn_for s.coming (written tree)
       → AnswerGives keys false s request result g' lab' old new
@@ -127,9 +128,9 @@ module _ (keys : Key) (s : State) (lab : Lab) (text : List ℕ) (tree : Statemen
 
 -- ---- the startup message
 
-module _ (keys : Key) (s : State) (lab : Lab) (text : List ℕ) (params : List Pair) (rests : Rests keys lab s true) where
+module _ (keys : Key) (view : KeyView) (s : State) (lab : Lab) (text : List ℕ) (params : List Pair) (rests : Rests keys lab s true) where
   abbrev shows : Back → Back
-  shows = shown_message (opened_text keys) []
+  shows = shown_message (opened_by view) []
 
   startup_shown : (messages : List Back) → messages ≡ startup_messages lab.session → reply_bytes (map shows messages) ≡ answer keys s (Request.Opens params)
   startup_shown messages e = ap (λ (ms : List Back). reply_bytes (map shows ms)) (e ∙ ap startup_messages rests.session)
@@ -170,16 +171,16 @@ pub plan_sends : (keys : Key) (g g' : ChaCha) (tree : Statement) (plan : Plan) (
 plan_sends keys g g' tree plan opening p can = subst (λ (q : Front). CanSend opening q) (sym p.request) (can_send keys g tree opening can.0 can.1 can.2 p.bytes)
 
 -- what was planned for a statement is answered as the plaintext tables answer it
-pub plan_answered : {T E : Type 0} (keys : Key) (s : State) (lab : Lab) (text : List ℕ) (tree : Statement) (g g' : ChaCha) (plan : Plan) (shown : List Bool) (result : Result T E) (lab' : Lab) (old new : Option (List ℕ))
-    → IsPlan keys g g' tree plan → IsUsable keys → (lab.stream.opening ≡ false) × IsStatement tree × (has_short_strings tree ≡ true) → Rests keys lab s lab.stream.opening → g ≡ s.coming → shown ≡ plan.protected.items
-    → ForwardGives (shown_message (opened_text keys) shown) lab plan.request result lab' old new → AnswerGives keys lab.stream.opening s (Request.Asks text tree) result g' lab' old new
-plan_answered keys s lab text tree g g' plan shown result lab' old new p usable can rests eg es f =
+pub plan_answered : {T E : Type 0} (keys : Key) (view : KeyView) (s : State) (lab : Lab) (text : List ℕ) (tree : Statement) (g g' : ChaCha) (plan : Plan) (shown : List Bool) (result : Result T E) (lab' : Lab) (old new : Option (List ℕ))
+    → IsPlan keys g g' tree plan → HasKey view keys → (lab.stream.opening ≡ false) × IsStatement tree × (has_short_strings tree ≡ true) → Rests keys lab s lab.stream.opening → g ≡ s.coming → shown ≡ plan.protected.items
+    → ForwardGives (shown_message (opened_by view) shown) lab plan.request result lab' old new → AnswerGives keys lab.stream.opening s (Request.Asks text tree) result g' lab' old new
+plan_answered keys view s lab text tree g g' plan shown result lab' old new p has can rests eg es f =
     let rests' = subst (λ (b : Bool). Rests keys lab s b) can.0 rests in
     let bytes' = subst (λ (h : ChaCha). IsBytes (cell_for keys h (written tree))) eg p.bytes in
     let request' = p.request ∙ ap (λ (h : ChaCha). fronts.Query (sent_text keys h tree)) eg in
     subst (λ (b : Bool). AnswerGives keys b s (Request.Asks text tree) result g' lab' old new) (sym can.0)
     (
-    statement_answered keys s lab text tree shown rests' can.1 can.2 bytes' (es ∙ p.protected) usable result g' lab' old new (subst (λ (q : Front). ForwardGives (shown_message (opened_text keys) shown) lab q result lab' old new) request' f)
+    statement_answered keys s lab text tree shown rests' can.1 can.2 bytes' (es ∙ p.protected) view has result g' lab' old new (subst (λ (q : Front). ForwardGives (shown_message (opened_by view) shown) lab q result lab' old new) request' f)
     (p.drawn ∙ ap (λ (h : ChaCha). drawn_for h (written tree)) eg)
     )
 
@@ -197,17 +198,22 @@ answered_alone keys s lab awaits r (Err e) g old new es ea rests eg sent = recor
 pub declined : {T E : Type 0} (keys : Key) (s : State) (lab : Lab) (awaits : Bool) (how : Encryption) (result : Result T E) (g : ChaCha) (old new : Option (List ℕ)) → Rests keys lab s awaits → g ≡ s.coming → Sends old new result (78 ∷ []) → AnswerGives keys awaits s (Request.Encrypts how) result g lab old new
 declined keys s lab awaits how result g old new rests eg sent = answered_alone keys s lab awaits (Request.Encrypts how) result g old new refl (opening_of awaits) rests eg sent
 
+pub declined_given : {T E : Type 0} (keys : Key) (s : State) (lab : Lab) (text : List ℕ) (what : Said) (how : Encryption) (result : Result T E) (g : ChaCha) (old new : Option (List ℕ)) → what ≡ said.Encrypts how → Rests keys lab s lab.stream.opening → g ≡ s.coming
+    → Sends old new result (78 ∷ []) → AnswerGives keys lab.stream.opening s (request_of text what) result g lab old new
+declined_given keys s lab text what how result g old new e rests eg sent =
+    subst (λ (w : Said). AnswerGives keys lab.stream.opening s (request_of text w) result g lab old new) (sym e) (declined keys s lab lab.stream.opening how result g old new rests eg sent)
+
 -- the reply to a text that is answered by one message
 abbrev pub alone : Back → List ℕ
 alone message = reply_bytes (message ∷ ready ∷ [])
 
 -- ---- the answers, by what was said
 
-pub startup_given : {T E : Type 0} (keys : Key) (s : State) (lab : Lab) (text : List ℕ) (what : Said) (params : List Pair) (result : Result T E) (g : ChaCha) (lab' : Lab) (old new : Option (List ℕ)) → what ≡ said.Opens params → CanAnswer lab.stream.opening what → Rests keys lab s lab.stream.opening → g ≡ s.coming
-    → ForwardGives (shown_message (opened_text keys) []) lab (fronts.Startup params) result lab' old new → AnswerGives keys lab.stream.opening s (request_of text what) result g lab' old new
-startup_given keys s lab text what params result g lab' old new e can rests eg f =
+pub startup_given : {T E : Type 0} (keys : Key) (view : KeyView) (s : State) (lab : Lab) (text : List ℕ) (what : Said) (params : List Pair) (result : Result T E) (g : ChaCha) (lab' : Lab) (old new : Option (List ℕ)) → what ≡ said.Opens params → CanAnswer lab.stream.opening what → Rests keys lab s lab.stream.opening → g ≡ s.coming
+    → ForwardGives (shown_message (opened_by view) []) lab (fronts.Startup params) result lab' old new → AnswerGives keys lab.stream.opening s (request_of text what) result g lab' old new
+startup_given keys view s lab text what params result g lab' old new e can rests eg f =
     let here = subst (λ (w : Said). CanAnswer lab.stream.opening w) e can in
-    let given = startup_answered keys s lab text params (subst (λ (b : Bool). Rests keys lab s b) here.0 rests) result g lab' old new f eg in
+    let given = startup_answered keys view s lab text params (subst (λ (b : Bool). Rests keys lab s b) here.0 rests) result g lab' old new f eg in
     subst (λ (w : Said). AnswerGives keys lab.stream.opening s (request_of text w) result g lab' old new) (sym e)
     (subst (λ (b : Bool). AnswerGives keys b s (Request.Opens params) result g lab' old new) (sym here.0) given)
 

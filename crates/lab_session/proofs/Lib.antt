@@ -11,3 +11,6 @@ pub mod Meant
 pub mod Positive
 pub mod Meaning
 pub mod AnswerLaws
+pub mod Leased
+pub mod Bare
+pub mod DrawnRing

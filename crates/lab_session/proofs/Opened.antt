@@ -1,16 +1,15 @@
 -- A stored cell opens to its value.
-use Rattle.std.proofs.Common.{◌≡◌, ℕ, ◌+◌, ◌≤◌, Bool, List, [], ◌∷◌, length, take, drop, Option, Some, refl, ap, ◌∙◌, arith, if◌then◌else◌}
+use Rattle.std.proofs.Common.{◌≡◌, ℕ, ◌+◌, ◌≤◌, List, [], ◌∷◌, length, take, drop, Option, Some, refl, ap, ◌∙◌, arith}
 use Rattle.std.specs.List.{AllByRecursion}
 use Rattle.std.specs.Option.{option_and_then}
 use Rattle.std.specs.Result.{result_ok}
-use Rattle.std.proofs.lemmas.Bool.{eq-eqb}
 use Rattle.hex.specs.Hex.{IsBytes}
 use Rattle.hex.proofs.HexLemmas.{decode_of-encode_lower}
 use Rattle.acra_crypto.specs.Aes.{aes256}
 use Rattle.acra_crypto.specs.Sealed.{gcm_opens, gcm_only, length-gcm_sealed}
 use Rattle.acra_block.specs.declared.kind.CellKind.TheVariants as kinds
-use Rattle.acra_block.specs.declared.keys.LiveKey.{LiveKey}
-use Rattle.acra_block.specs.Keys.{Key, key_of}
+use Rattle.acra_block.specs.declared.keys.KeyView.{KeyView}
+use Rattle.acra_block.specs.Keys.{Key}
 use Rattle.acra_block.proofs.Sealed.{cell_opens}
 use Rattle.acra_block.proofs.Spelled.{sealed_parts}
 use Rattle.plain_tables.specs.Meanings.{string_limit}
@@ -18,7 +17,7 @@ use Rattle.table_machine.specs.Stored.{bytea_text}
 use Rattle.plain_tables.specs.Plain.{PlainCell}
 use Rattle.plain_tables.specs.Standing.{IsMeant}
 use Rattle.plain_tables.specs.Shown.{Opens}
-use Rattle.lab_session.specs.Cells.{sealing, opening, sealed_cell, IsStored, IsUsable, own_view, text_bytes, value_of, value_in, opened_text}
+use Rattle.lab_session.specs.Cells.{sealing, opening, sealed_cell, IsStored, HasKey, text_bytes, value_of, value_in, opened_by}
 
 -- a sealed cell has 112 bytes more than its value
 pub sealed_length : (key : Key) (drawn plain stored : List ℕ) → length drawn ≡ 56 → stored ≡ sealed_cell key drawn plain → length stored ≡ 112 + length plain
@@ -26,34 +25,31 @@ sealed_length key drawn plain stored full made =
     let parts = sealed_parts sealing opening (λ k n e p. gcm_opens (aes256 k) n e p) (λ k n e s p h. gcm_only (aes256 k) n e s p h) (λ k n e p. length-gcm_sealed (aes256 k) n e p) key.owner key.id key.key drawn plain stored full made in
     omega (arith, parts.long, length-gcm_sealed (aes256 (take 32 drawn)) (take 12 (drop 44 drawn)) key.owner plain)
 
-same_id : (id : ℕ) (key : List ℕ) (others : List LiveKey) → key_of id (record { id = id; key = key } ∷ others) ≡ Some key
-same_id id key others = ap (λ (b : Bool). if b then Some key else key_of id others) (eq-eqb id id refl)
-
-pub value_again : (key : Key) (drawn plain stored : List ℕ) → IsUsable key → length drawn ≡ 56 → length plain ≤ string_limit → stored ≡ sealed_cell key drawn plain → value_in (own_view key) stored ≡ Some plain
-value_again key drawn plain stored usable full short made =
-    ap (value_in (own_view key)) made
+pub value_again : (key : Key) (view : KeyView) (drawn plain stored : List ℕ) → HasKey view key → length drawn ≡ 56 → length plain ≤ string_limit → stored ≡ sealed_cell key drawn plain → value_in view stored ≡ Some plain
+value_again key view drawn plain stored has full short made =
+    ap (value_in view) made
     ∙ ap value_of (cell_opens sealing opening (λ k n e p. gcm_opens (aes256 k) n e p) (λ k n e s p h. gcm_only (aes256 k) n e s p h) (λ k n e p. length-gcm_sealed (aes256 k) n e p)
-    kinds.Sealed key (own_view key) drawn plain short tt full usable.least (omega (arith, usable.room)) (omega arith) refl (same_id key.id key.key []))
+    kinds.Sealed key view drawn plain short tt full has.least has.fits has.given has.who has.found)
 
 -- bytes in text form mean these bytes
 pub text_again : (bytes : List ℕ) → IsBytes bytes → text_bytes (bytea_text bytes) ≡ Some bytes
 text_again bytes h = ap result_ok (decode_of-encode_lower bytes h)
 
-pub stored_opens : (keys : Key) → IsUsable keys → (owner plain stored : List ℕ) → IsStored keys owner plain stored → Opens keys.owner (opened_text keys) owner plain stored
-stored_opens keys usable owner plain stored h = record {
+pub stored_opens : (keys : Key) (view : KeyView) → HasKey view keys → (owner plain stored : List ℕ) → IsStored keys owner plain stored → Opens keys.owner (opened_by view) owner plain stored
+stored_opens keys view has owner plain stored h = record {
   owned = h.owned;
-  opens = ap (λ (o : Option (List ℕ)). option_and_then (value_in (own_view keys)) o) (text_again stored h.bytes) ∙ value_again keys h.drawn plain stored usable h.full h.short h.made;
+  opens = ap (λ (o : Option (List ℕ)). option_and_then (value_in view) o) (text_again stored h.bytes) ∙ value_again keys view h.drawn plain stored has h.full h.short h.made;
 }
 
 -- rows of stored cells open
-row_opens : (keys : Key) → IsUsable keys → (row : List PlainCell) → IsMeant (IsStored keys) row → IsMeant (Opens keys.owner (opened_text keys)) row
-row_opens keys usable (PlainCell.Public c ∷ PlainCell.Protected owner plain stored ∷ []) h = stored_opens keys usable owner plain stored h
-row_opens keys usable [] h = absurd h
-row_opens keys usable (PlainCell.Public c ∷ []) h = absurd h
-row_opens keys usable (PlainCell.Public c ∷ PlainCell.Public d ∷ more) h = absurd h
-row_opens keys usable (PlainCell.Public c ∷ PlainCell.Protected owner plain stored ∷ d ∷ more) h = absurd h
-row_opens keys usable (PlainCell.Protected owner plain stored ∷ more) h = absurd h
+row_opens : (keys : Key) (view : KeyView) → HasKey view keys → (row : List PlainCell) → IsMeant (IsStored keys) row → IsMeant (Opens keys.owner (opened_by view)) row
+row_opens keys view has (PlainCell.Public c ∷ PlainCell.Protected owner plain stored ∷ []) h = stored_opens keys view has owner plain stored h
+row_opens keys view has [] h = absurd h
+row_opens keys view has (PlainCell.Public c ∷ []) h = absurd h
+row_opens keys view has (PlainCell.Public c ∷ PlainCell.Public d ∷ more) h = absurd h
+row_opens keys view has (PlainCell.Public c ∷ PlainCell.Protected owner plain stored ∷ d ∷ more) h = absurd h
+row_opens keys view has (PlainCell.Protected owner plain stored ∷ more) h = absurd h
 
-pub rows_open : (keys : Key) → IsUsable keys → (rows : List (List PlainCell)) → AllByRecursion (IsMeant (IsStored keys)) rows → AllByRecursion (IsMeant (Opens keys.owner (opened_text keys))) rows
-rows_open keys usable [] h = tt
-rows_open keys usable (row ∷ rows) h = (row_opens keys usable row h.0, rows_open keys usable rows h.1)
+pub rows_open : (keys : Key) (view : KeyView) → HasKey view keys → (rows : List (List PlainCell)) → AllByRecursion (IsMeant (IsStored keys)) rows → AllByRecursion (IsMeant (Opens keys.owner (opened_by view))) rows
+rows_open keys view has [] h = tt
+rows_open keys view has (row ∷ rows) h = (row_opens keys view has row h.0, rows_open keys view has rows h.1)

@@ -305,6 +305,12 @@ module _ (keys : Key) (g0 : ChaCha) (left0 held0 left held : Option (List ℕ)) 
         why = why;
       }
 
+  -- a request was taken, and nothing was begun of it
+  pub unbegun : (lab' : Lab) (held' : Option (List ℕ)) (status : Status) → lab' ≡ lab → held' ≡ held → Ends status left rs stream.left → Ran keys g0 left0 left held0 held' lab'.rows status rs [] stream.left
+  unbegun lab' held' status el eh why =
+      subst (λ (l : Lab). Ran keys g0 left0 left held0 held' l.rows status rs [] stream.left) (sym el)
+      (subst (λ (h : Option (List ℕ)). Ran keys g0 left0 left held0 h lab.rows status rs [] stream.left) (sym eh) (ends_here status why))
+
   -- the client has left
   pub leaves : (t : Stream) → (k : Takes stream Request.Leaves t) → Ran keys g0 left0 left held0 held lab.rows ends.Done (rs ++ Request.Leaves ∷ []) [] k.rest
   leaves t k =

@@ -1,5 +1,5 @@
 -- What a client asks next, and what answering it does.
-use Rattle.std.specs.Prelude.{ℕ, ◌≡◌, ◌⊎◌, Bool, true, false, Option, Result, Ok, Err, List, ◌++◌}
+use Rattle.std.specs.Prelude.{ℕ, ◌≡◌, ◌⊎◌, Bool, true, false, Option, Result, Ok, Err, List, [], ◌∷◌, ◌++◌}
 use Rattle.rand_chacha.specs.ChaCha.{ChaCha}
 use Rattle.acra_base.specs.Known.{Grew}
 use Rattle.pg_wire.specs.declared.front.Front.TheVariants as fronts
@@ -14,6 +14,7 @@ use Rattle.plain_tables.specs.Meanings.{has_short_strings}
 use Rattle.plain_tables.specs.BadMessages.{IsBad}
 use Rattle.plain_tables.specs.Standing.{StandFor}
 use Rattle.acra_block.specs.Keys.{Key}
+use Rattle.keystore.specs.Rings.{RingState}
 use Rattle.lab_session.specs.Cells.{IsStored}
 use Rattle.lab_session.specs.Runs.{State, written, cell_for, drawn_for, state_after, answer}
 use Rattle.hex.specs.Hex.{IsBytes}
@@ -22,6 +23,7 @@ use Rattle.sql_profile.specs.Canonical.{canon}
 use Rattle.plain_tables.specs.Rewritten.{rewritten, protected_of}
 use Rattle.lab_session.specs.declared.plan.Plan.{Plan}
 use Rattle.lab_session.specs.Session.{Rests, SentFront}
+use Rattle.lab_session.specs.Leases.{after_leases}
 use Rattle.lab_session.specs.declared.said.Said.{Said}
 use Rattle.lab_session.specs.declared.said.Said.TheVariants as said
 use Rattle.lab_session.specs.declared.said.Next.{Next}
@@ -98,3 +100,17 @@ pub record Broken (keys : Key) (s : State) (r : Request) (lab : Lab) (old new : 
 abbrev pub AnswerGives : {T E : Type 0} → Key → Bool → State → Request → Result T E → ChaCha → Lab → Option (List ℕ) → Option (List ℕ) → Type 0
 AnswerGives keys awaits s r (Ok t) g lab old new = Answered keys awaits s r g lab old new
 AnswerGives keys awaits s r (Err e) g lab old new = Broken keys s r lab old new
+
+-- ---- answering under a lease
+
+-- the keys weren't lent for want of memory, so nothing was begun
+pub record Unbegun (ring ring' : RingState) (lab lab' : Lab) (old new : Option (List ℕ)) : Type 0 where
+  pub ring_is : ring' ≡ ring
+  pub lab_is : lab' ≡ lab
+  pub sent : new ≡ old
+
+-- what an answer does, and what is left of the ring
+abbrev pub ServeGives : {T E : Type 0} → Key → Bool → State → Request → Result T E → ChaCha → RingState → RingState → Lab → Lab → Option (List ℕ) → Option (List ℕ) → Type 0
+ServeGives keys awaits s r (Ok t) g ring ring' lab lab' old new = Answered keys awaits s r g lab' old new × (ring' ≡ after_leases ring (r ∷ []))
+ServeGives keys awaits s r (Err e) g ring ring' lab lab' old new =
+    Unbegun ring ring' lab lab' old new ⊎ (Broken keys s r lab' old new × (ring' ≡ after_leases ring (r ∷ [])))

@@ -1,11 +1,11 @@
 -- The cells of a session: what is stored for a value, and what a cell in text form opens to.
-use Rattle.std.specs.Prelude.{ℕ, ◌≡◌, ◌+◌, ◌^◌, ◌≤◌, ◌<◌, nat_eq, if◌then◌else◌, List, [], ◌∷◌, length, take, drop, Option, Some, None}
+use Rattle.std.specs.Prelude.{ℕ, ◌≡◌, ◌^◌, ◌≤◌, ◌<◌, nat_eq, if◌then◌else◌, List, [], ◌∷◌, length, take, drop, Option, Some, None}
 use Rattle.std.specs.Option.{option_and_then}
 use Rattle.std.specs.Result.{result_ok}
 use Rattle.std.specs.Cmp.Lexicographic.{pointwise}
 use Rattle.hex.specs.Hex.{decode_of, IsBytes}
 use Rattle.acra_crypto.specs.Gcm.{aes256_gcm, aes256_gcm_opened}
-use Rattle.acra_block.specs.Keys.{Key}
+use Rattle.acra_block.specs.Keys.{Key, key_of}
 use Rattle.acra_block.specs.Containers.{Sealing, Opening}
 use Rattle.acra_block.specs.Cells.{cell, opened_cell}
 use Rattle.acra_block.specs.declared.kind.CellKind.TheVariants as kinds
@@ -34,16 +34,15 @@ pub record IsStored (key : Key) (owner plain stored : List ℕ) : Type 0 where
   pub made : stored ≡ sealed_cell key drawn plain
   pub bytes : IsBytes stored
 
--- a key's id is at least 1, and there are ids above it
-pub record IsUsable (key : Key) : Type 0 where
-  pub least : 1 ≤ key.id
-  pub room : key.id + 1 < 2 ^ 64
-
 -- ---- opening
 
--- the keys by which a client opens cells that its one key sealed
-abbrev pub own_view : Key → KeyView
-own_view key = record { who = key.owner; next_id = key.id + 1; keys = record { id = key.id; key = key.key } ∷ [] }
+-- the owner's view of its keys, in which this key stands under its id
+pub record HasKey (view : KeyView) (key : Key) : Type 0 where
+  pub who : view.who ≡ key.owner
+  pub least : 1 ≤ key.id
+  pub fits : key.id < 2 ^ 64
+  pub given : key.id < view.next_id
+  pub found : key_of key.id view.keys ≡ Some key.key
 
 -- the bytes of a cell in text form: \x and hexadecimal digits
 abbrev pub text_bytes : List ℕ → Option (List ℕ)
@@ -62,7 +61,3 @@ value_in view bytes = value_of (opened_cell opening kinds.Sealed view bytes)
 -- what a cell in text form opens to
 abbrev pub opened_by : KeyView → List ℕ → Option (List ℕ)
 opened_by view text = option_and_then (value_in view) (text_bytes text)
-
--- the same by the client's one key
-abbrev pub opened_text : Key → List ℕ → Option (List ℕ)
-opened_text key text = opened_by (own_view key) text

@@ -2,6 +2,7 @@ pub mod Codes
 pub mod Cells
 pub mod ClientKey
 pub mod Runs
+pub mod Leases
 pub mod Session
 pub mod Relaying
 pub mod Understood

@@ -1,31 +1,36 @@
-ghost use Rattle.std.specs.Prelude.{◌≡◌, ◌≤◌, ℕ, List, [], ◌∷◌, IsErrOf};
+ghost use Rattle.std.specs.Prelude.{◌≡◌, ◌≤◌, ℕ, List, [], ◌∷◌, false, IsErrOf};
 ghost use Rattle.acra_base.specs.Causes.{Rose};
 ghost use Rattle.sql_profile.specs.Tree.{IsStatement};
 ghost use Rattle.table_machine.specs.Replies.{ready};
 ghost use Rattle.plain_tables.specs.Reply.{reply_bytes};
 ghost use Rattle.pg_wire.specs.declared.back.Back.TheVariants.{EmptyQuery};
-ghost use Rattle.lab_session.specs.Cells.{IsUsable, own_view};
+ghost use Rattle.acra_block.specs.Keys.{Key};
+ghost use Rattle.acra_block.specs.declared.keys.KeyView.{KeyView as View};
+ghost use Rattle.lab_session.specs.Cells.{HasKey};
+ghost use Rattle.lab_session.specs.Leases.{needs_lease, Lends};
 ghost use Rattle.lab_session.specs.Session.{Rests};
 ghost use Rattle.lab_session.specs.Relaying.{IsIdle, Sends};
 ghost use Rattle.lab_session.specs.Runs.{State};
-ghost use Rattle.lab_session.specs.Answering.{CanAnswer, AnswerGives, request_of};
+ghost use Rattle.lab_session.specs.Answering.{CanAnswer, AnswerGives, ServeGives, request_of};
 ghost use Rattle.lab_session.specs.declared.said.Said.TheVariants as said_as;
 
 use crate::forward::forward;
-use crate::planning::plan_for;
+use crate::leasing::{lend, needs_lease, no_keys};
+use crate::planning::{plan_for, request_for};
 use crate::refusing::refuse;
 use crate::said::Said;
 use crate::send::send;
 use crate::stop::Stop;
-use acra_base::{Sink, SureRandom};
+use acra_base::{ClientId, Sink, SureRandom};
 use acra_block::{KeyView, OwnerKey};
+use keystore::Ring;
 use pg_wire::{Back, Front, write_back};
 use sql_profile::Statement;
 use std::alloc::Global;
 use table_machine::{LabBackend, write_ready};
 
-// Sends a statement on with its string sealed, and shows the reply.
-fn answer_statement<K: Sink>(
+// Sends a statement on with its string sealed, and shows the reply, by the keys of a lease.
+fn answer_leased<K: Sink>(
     alloc: Global,
     key: &OwnerKey,
     view: &KeyView,
@@ -34,8 +39,7 @@ fn answer_statement<K: Sink>(
     output: &mut K,
     tree: Statement,
 ) -> Result<(), Stop>
-    requires usable { IsUsable key.now }
-    requires view { view.now ≡ own_view key.now }
+    requires view { HasKey view.now key.now }
     requires idle { IsIdle backend.old }
     requires can { CanAnswer backend.old.stream.opening (said_as.Asks tree) }
     ensures gives { (s : State) (text : List ℕ) → Rests key.now backend.old s backend.old.stream.opening → random.old ≡ s.coming
@@ -47,6 +51,62 @@ fn answer_statement<K: Sink>(
     match plan_for(alloc, key, random, tree) {
         Err(_) => Err(Stop::NoMemory),
         Ok(plan) => forward(alloc, view, backend, output, &plan.request, &plan.protected),
+    }
+}
+
+// Sends a statement on that needs no keys, and shows the reply as it is.
+fn answer_bare<K: Sink>(
+    alloc: Global,
+    who: &ClientId,
+    backend: &mut LabBackend,
+    output: &mut K,
+    tree: &Statement,
+) -> Result<(), Stop>
+    requires bare { needs_lease tree.now ≡ false }
+    requires idle { IsIdle backend.old }
+    requires can { CanAnswer backend.old.stream.opening (said_as.Asks tree.now) }
+    ensures gives { (key : Key) (keys : View) (s : State) (text : List ℕ) → HasKey keys key → Rests key backend.old s backend.old.stream.opening
+        → AnswerGives key backend.old.stream.opening s (request_of text (said_as.Asks tree.now)) result s.coming backend.new (K.held output.old) (K.held output.new) }
+    ensures later { K.write_faults output.old ≤ K.write_faults output.new }
+    ensures fault { IsErrOf result Stop.WriteFault → Rose (K.write_faults output.old) (K.write_faults output.new) }
+    ensures no_read { IsErrOf result Stop.ReadFault → ⊥ }
+{
+    match request_for(alloc, tree) {
+        Err(_) => Err(Stop::NoMemory),
+        Ok(request) => forward(alloc, &no_keys(alloc, who), backend, output, &request, &[]),
+    }
+}
+
+// Answers a statement: where it needs the client's keys, under a lease, which is released after it.
+fn answer_statement<K: Sink>(
+    alloc: Global,
+    ring: &mut Ring,
+    who: &ClientId,
+    random: &mut SureRandom,
+    backend: &mut LabBackend,
+    output: &mut K,
+    tree: Statement,
+) -> Result<(), Stop>
+    requires lends { (key : Key) × Lends ring.old who.now key }
+    requires idle { IsIdle backend.old }
+    requires can { CanAnswer backend.old.stream.opening (said_as.Asks tree) }
+    ensures gives { (key : Key) (s : State) (text : List ℕ) → Lends ring.old who.now key → Rests key backend.old s backend.old.stream.opening → random.old ≡ s.coming
+        → ServeGives key backend.old.stream.opening s (request_of text (said_as.Asks tree)) result random.new ring.old ring.new backend.old backend.new (K.held output.old) (K.held output.new) }
+    ensures later { K.write_faults output.old ≤ K.write_faults output.new }
+    ensures fault { IsErrOf result Stop.WriteFault → Rose (K.write_faults output.old) (K.write_faults output.new) }
+    ensures no_read { IsErrOf result Stop.ReadFault → ⊥ }
+{
+    if !needs_lease(&tree) {
+        return answer_bare(alloc, who, backend, output, &tree);
+    }
+    match lend(ring, who) {
+        Err(stop) => Err(stop),
+        Ok(lease) => {
+            let key = &lease.currents.as_slice()[0];
+            let answered = answer_leased(alloc, key, &lease.view, random, backend, output, tree);
+            ring.release(lease.ticket);
+            answered
+        }
     }
 }
 
@@ -66,19 +126,18 @@ fn answer_nothing<K: Sink>(alloc: Global, output: &mut K) -> Result<(), Stop>
 /// Answers a request: has the backend execute a statement or the startup, and sends the client the reply.
 pub fn answer<K: Sink>(
     alloc: Global,
-    key: &OwnerKey,
-    view: &KeyView,
+    ring: &mut Ring,
+    who: &ClientId,
     random: &mut SureRandom,
     backend: &mut LabBackend,
     output: &mut K,
     said: Said,
 ) -> Result<(), Stop>
-    requires usable { IsUsable key.now }
-    requires view { view.now ≡ own_view key.now }
+    requires lends { (key : Key) × Lends ring.old who.now key }
     requires idle { IsIdle backend.old }
     requires can { CanAnswer backend.old.stream.opening said }
-    ensures gives { (s : State) (text : List ℕ) → Rests key.now backend.old s backend.old.stream.opening → random.old ≡ s.coming
-        → AnswerGives key.now backend.old.stream.opening s (request_of text said) result random.new backend.new (K.held output.old) (K.held output.new) }
+    ensures gives { (key : Key) (s : State) (text : List ℕ) → Lends ring.old who.now key → Rests key backend.old s backend.old.stream.opening → random.old ≡ s.coming
+        → ServeGives key backend.old.stream.opening s (request_of text said) result random.new ring.old ring.new backend.old backend.new (K.held output.old) (K.held output.new) }
     ensures later { K.write_faults output.old ≤ K.write_faults output.new }
     ensures fault { IsErrOf result Stop.WriteFault → Rose (K.write_faults output.old) (K.write_faults output.new) }
     ensures no_read { IsErrOf result Stop.ReadFault → ⊥ }
@@ -87,9 +146,9 @@ pub fn answer<K: Sink>(
         Said::Encrypts(_) => send(output, b"N"),
         Said::Opens(params) => {
             let request = Front::Startup { params };
-            forward(alloc, view, backend, output, &request, &[])
+            forward(alloc, &no_keys(alloc, who), backend, output, &request, &[])
         }
-        Said::Asks(tree) => answer_statement(alloc, key, view, random, backend, output, tree),
+        Said::Asks(tree) => answer_statement(alloc, ring, who, random, backend, output, tree),
         Said::Empties => answer_nothing(alloc, output),
         Said::Refused(cause) => refuse(alloc, cause, output),
     }

@@ -4,7 +4,7 @@
 
 mod answering;
 mod forward;
-mod key;
+mod leasing;
 mod meanings;
 mod narrowing;
 mod opening;
@@ -14,13 +14,14 @@ mod refusing;
 mod relay;
 mod rewriting;
 mod said;
+mod seeded;
 mod send;
 mod session;
 mod showing;
 mod status;
 mod stop;
 
-pub use key::client_key;
+pub use seeded::client_ring;
 pub use session::first_session;
 pub use status::Status;
 

@@ -1,5 +1,6 @@
 ghost use Rattle.std.specs.Prelude.{◌≡◌, true, IfOk};
 ghost use Rattle.sql_profile.specs.Tree.{IsStatement};
+ghost use Rattle.sql_profile.specs.Canonical.{canon};
 ghost use Rattle.plain_tables.specs.Meanings.{has_short_strings};
 ghost use Rattle.lab_session.specs.Answering.{IsPlan};
 
@@ -10,6 +11,15 @@ use acra_block::OwnerKey;
 use pg_wire::Front;
 use sql_profile::{Statement, print};
 use std::alloc::Global;
+
+/// The request for a statement: its canonical text.
+pub fn request_for(alloc: Global, tree: &Statement) -> Result<Front, NoMemory>
+    ensures { IfOk result (λ request. request ≡ Front.Query (canon tree.now)) }
+{
+    let mut text = Vec::new(alloc);
+    print(tree, &mut text)?;
+    Ok(Front::Query(Bytes::from_vec(text)))
+}
 
 /// The plan for a statement: its string is sealed, and its canonical text is what is sent.
 pub fn plan_for(
@@ -24,10 +34,8 @@ pub fn plan_for(
 {
     let protected = protected_columns(alloc, &tree)?;
     let sent = sealed_statement(alloc, key, random, tree)?;
-    let mut text = Vec::new(alloc);
-    print(&sent, &mut text)?;
     Ok(Plan {
-        request: Front::Query(Bytes::from_vec(text)),
+        request: request_for(alloc, &sent)?,
         protected,
     })
 }

@@ -1,5 +1,5 @@
 ghost use Rattle.std.specs.Prelude.{◌≡◌, map, IfOk, OnOk, option_map, true};
-ghost use Rattle.plain_tables.specs.Rewritten.{rewritten_value, rewritten, protected_of};
+ghost use Rattle.plain_tables.specs.Rewritten.{rewritten_value, rewritten, is_protected, protected_of};
 ghost use Rattle.hex.specs.Hex.{IsBytes};
 ghost use Rattle.plain_tables.specs.Meanings.{has_short_strings};
 ghost use Rattle.table_machine.specs.Stored.{bytea_text};
@@ -8,8 +8,15 @@ ghost use Rattle.lab_session.specs.Runs.{written, written_rows, written_values, 
 use acra_base::{Bytes, NoMemory, Sequence, SureRandom};
 use acra_block::{CellKind, OwnerKey, seal_cell};
 use acra_crypto::Aes256Gcm;
-use sql_profile::{Items, Operand, Statement};
+use sql_profile::{Item, Items, Operand, Statement};
 use std::alloc::Global;
+
+/// Whether an item of a SELECT is the protected column.
+pub fn is_protected(item: &Item) -> bool
+    ensures { result ≡ is_protected item.now }
+{
+    item.column.as_slice() == b"body".as_slice()
+}
 
 /// Which columns of a statement's result are protected.
 pub fn protected_columns(alloc: Global, tree: &Statement) -> Result<Vec<bool>, NoMemory>
@@ -20,7 +27,7 @@ pub fn protected_columns(alloc: Global, tree: &Statement) -> Result<Vec<bool>, N
             let Items::Columns(items) = items;
             let mut protected = Vec::new(alloc);
             'items: for item in items.as_slice() {
-                protected.push(item.column.as_slice() == b"body".as_slice())?;
+                protected.push(is_protected(item))?;
             }
             Ok(protected)
         }
@@ -46,8 +53,8 @@ fn written_rows(rows: &[Sequence<Operand>]) -> Option<&[u8]>
     }
 }
 
-// The string that a statement writes.
-fn written(tree: &Statement) -> Option<&[u8]>
+/// The string that a statement writes.
+pub fn written(tree: &Statement) -> Option<&[u8]>
     ensures { option_map (λ text. text.now) result ≡ written tree.now }
 {
     match tree {

@@ -1,17 +1,19 @@
-ghost use Rattle.std.specs.Prelude.{◌≡◌, ◌≤◌, ◌<◌, ℕ, List, [], IfOk, OnErr, IsErrOf};
+ghost use Rattle.std.specs.Prelude.{◌≡◌, ◌≤◌, ◌<◌, ◌+◌, ◌^◌, ℕ, List, [], ◌++◌, Some, IsSome, IfOk, OnErr, IsErrOf};
 ghost use Rattle.acra_base.specs.Causes.{Rose};
 ghost use Rattle.plain_tables.specs.Requests.{Request};
 ghost use Rattle.table_machine.specs.Backend.{new_lab};
-ghost use Rattle.lab_session.specs.Cells.{IsUsable, own_view};
+ghost use Rattle.acra_block.specs.Keys.{Key};
+ghost use Rattle.keystore.specs.Rings.{current_of};
+ghost use Rattle.keystore.specs.Kept.{IsKept};
+ghost use Rattle.lab_session.specs.Leases.{after_leases};
 ghost use Rattle.lab_session.specs.Session.{PieceRead, PieceTaken, status_of, Ran};
 
 use crate::answering::answer;
-use crate::key::own_view;
 use crate::said::{Next, next_said};
 use crate::status::Status;
 use crate::stop::Stop;
 use acra_base::{ClientId, Sink, Source, SureRandom};
-use acra_block::{KeyView, OwnerKey};
+use keystore::Ring;
 use pg_wire::{Framer, Side};
 use std::alloc::Global;
 use table_machine::LabBackend;
@@ -52,21 +54,27 @@ fn read_piece<S: Source>(input: &mut S, framer: &mut Framer, room: u64) -> Resul
     }
 }
 
-// Serves the client, whose cells are opened by this view.
-fn serve<S: Source, K: Sink>(
+/// One session of a client over the lab's backend: answers each request, in order, before it reads on.
+///
+/// A statement that writes or shows protected values is answered under a lease of the client's keys, which is
+/// released after it. The backend has the lab's table, empty, and was fed nothing.
+pub fn first_session<S: Source, K: Sink>(
     alloc: Global,
     input: &mut S,
     output: &mut K,
     random: &mut SureRandom,
-    key: &OwnerKey,
-    view: &KeyView,
+    who: &ClientId,
+    ring: &mut Ring,
     backend: &mut LabBackend,
 ) -> Status
-    requires usable { IsUsable key.now }
-    requires view { view.now ≡ own_view key.now }
+    requires client { IsSome (current_of ring.old who.now) }
+    requires kept { IsKept ring.old }
+    requires ids { ring.old.next_id < 2 ^ 64 }
+    requires tickets { ring.old.next_ticket + 2 ^ 48 < 2 ^ 64 }
     requires empty { backend.old ≡ new_lab 1 [] }
-    ensures ran { (answered : List Request) × (begun : List Request) × (rest : List ℕ)
-        × Ran key.now random.old (S.left input.old) (S.left input.new) (K.held output.old) (K.held output.new) backend.new.rows result answered begun rest }
+    ensures ran { (key : Key) × (answered : List Request) × (begun : List Request) × (rest : List ℕ) × (current_of ring.old who.now ≡ Some key)
+        × Ran key random.old (S.left input.old) (S.left input.new) (K.held output.old) (K.held output.new) backend.new.rows result answered begun rest
+        × (ring.new ≡ after_leases ring.old (answered ++ begun)) }
     ensures read_fault { result ≡ Status.ReadFault → Rose (S.read_faults input.old) (S.read_faults input.new) }
     ensures write_fault { result ≡ Status.WriteFault → Rose (K.write_faults output.old) (K.write_faults output.new) }
 {
@@ -78,7 +86,7 @@ fn serve<S: Source, K: Sink>(
             Ok(Next::Bad { offset, kind }) => return Status::BadClient { offset, kind },
             Ok(Next::Leaves) => return Status::Done,
             Ok(Next::Said(said)) => {
-                match answer(alloc, key, view, random, backend, output, said) {
+                match answer(alloc, ring, who, random, backend, output, said) {
                     Ok(()) => {}
                     Err(stop) => return stopped(stop),
                 }
@@ -99,31 +107,5 @@ fn serve<S: Source, K: Sink>(
                 }
             }
         }
-    }
-}
-
-/// One session of a client over the lab's backend: answers each request, in order, before it reads on.
-///
-/// The key is the client's. The backend has the lab's table, empty, and was fed nothing.
-pub fn first_session<S: Source, K: Sink>(
-    alloc: Global,
-    input: &mut S,
-    output: &mut K,
-    random: &mut SureRandom,
-    who: &ClientId,
-    key: &OwnerKey,
-    backend: &mut LabBackend,
-) -> Status
-    requires own { key.now.owner ≡ who.now }
-    requires usable { IsUsable key.now }
-    requires empty { backend.old ≡ new_lab 1 [] }
-    ensures ran { (answered : List Request) × (begun : List Request) × (rest : List ℕ)
-        × Ran key.now random.old (S.left input.old) (S.left input.new) (K.held output.old) (K.held output.new) backend.new.rows result answered begun rest }
-    ensures read_fault { result ≡ Status.ReadFault → Rose (S.read_faults input.old) (S.read_faults input.new) }
-    ensures write_fault { result ≡ Status.WriteFault → Rose (K.write_faults output.old) (K.write_faults output.new) }
-{
-    match own_view(alloc, key) {
-        Ok(view) => serve(alloc, input, output, random, key, &view, backend),
-        Err(_) => Status::NoMemory,
     }
 }

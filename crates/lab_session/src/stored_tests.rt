@@ -2,7 +2,6 @@ ghost use Rattle.std.specs.Prelude.{◌≡◌, []};
 ghost use Rattle.table_machine.specs.Backend.{new_lab};
 
 use super::*;
-use crate::key::client_key;
 use acra_base::{ClientId, SureLink};
 use std::alloc::Global;
 use std::test::Fail;
@@ -63,7 +62,7 @@ fn session(
     requires { backend.old ≡ new_lab 1 [] }
 {
     let who = ClientId::read(b"app")?;
-    let (key, mut random) = client_key(who, 1);
+    let (mut ring, mut random) = client_ring(alloc, &who, 1)?;
     let mut input = SureLink::new(alloc, input);
     let mut output = SureLink::new(alloc, Vec::new(alloc));
     let end = first_session(
@@ -72,7 +71,7 @@ fn session(
         &mut output,
         &mut random,
         &who,
-        &key,
+        &mut ring,
         backend,
     );
     Ok((end, Vec::from_slice(alloc, output.taken())?))

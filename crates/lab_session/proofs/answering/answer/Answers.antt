@@ -1,14 +1,25 @@
-use Rattle.lab_session.proofs.AnswerLaws.{startup_given, refused_given, empty_given}
+use Rattle.std.proofs.Common.{refl}
+use Rattle.lab_session.specs.declared.said.Said.TheVariants as said
+use Rattle.lab_session.proofs.AnswerLaws.{declined_given, startup_given, refused_given, empty_given}
+use Rattle.lab_session.proofs.Leased.{serves_unleased}
 use Rattle.lab_session.proofs.answering.answer.Goals as goal
 
+pub returns-in-Encrypts-clause-gives : goal.returns-in-Encrypts-clause-gives
+returns-in-Encrypts-clause-gives g c key s text lends rests e =
+    serves_unleased key _ s text c.args.said (said.Encrypts c.in-Encrypts.field-0) c.send.result c.args.random.now c.args.ring.now c.args.backend.now _ _ _ c.in-Encrypts.is refl
+    (declined_given key s c.args.backend.now text c.args.said c.in-Encrypts.field-0 c.send.result c.args.random.now _ _ c.in-Encrypts.is rests e c.send.ensures.sent)
+
 pub returns-in-Opens-clause-gives : goal.returns-in-Opens-clause-gives
-returns-in-Opens-clause-gives g c s text rests e =
-    startup_given c.args.key.now s c.args.backend.now text c.args.said c.in-Opens.params c.forward.result c.args.random.now c.forward.new.backend _ _ c.in-Opens.is c.requires.can rests e (rw c.requires.view at c.forward.ensures.sent)
+returns-in-Opens-clause-gives g c key s text lends rests e =
+    serves_unleased key _ s text c.args.said (said.Opens c.in-Opens.params) c.forward.result c.args.random.now c.args.ring.now c.args.backend.now _ _ _ c.in-Opens.is refl
+    (startup_given key c.no_keys.result s c.args.backend.now text c.args.said c.in-Opens.params c.forward.result c.args.random.now c.forward.new.backend _ _ c.in-Opens.is c.requires.can rests e c.forward.ensures.sent)
 
 pub returns-in-Refused-clause-gives : goal.returns-in-Refused-clause-gives
-returns-in-Refused-clause-gives g c s text rests e =
-    refused_given c.args.key.now s c.args.backend.now text c.args.said c.in-Refused.cause c.refuse.result c.args.random.now _ _ c.in-Refused.is rests e c.refuse.ensures.sent
+returns-in-Refused-clause-gives g c key s text lends rests e =
+    serves_unleased key _ s text c.args.said (said.Refused c.in-Refused.cause) c.refuse.result c.args.random.now c.args.ring.now c.args.backend.now _ _ _ c.in-Refused.is refl
+    (refused_given key s c.args.backend.now text c.args.said c.in-Refused.cause c.refuse.result c.args.random.now _ _ c.in-Refused.is rests e c.refuse.ensures.sent)
 
 pub returns-in-Empties-clause-gives : goal.returns-in-Empties-clause-gives
-returns-in-Empties-clause-gives g c s text rests e =
-    empty_given c.args.key.now s c.args.backend.now text c.args.said c.answer_nothing.result c.args.random.now _ _ c.in-Empties.is rests e c.answer_nothing.ensures.sent
+returns-in-Empties-clause-gives g c key s text lends rests e =
+    serves_unleased key _ s text c.args.said said.Empties c.answer_nothing.result c.args.random.now c.args.ring.now c.args.backend.now _ _ _ c.in-Empties.is refl
+    (empty_given key s c.args.backend.now text c.args.said c.answer_nothing.result c.args.random.now _ _ c.in-Empties.is rests e c.answer_nothing.ensures.sent)

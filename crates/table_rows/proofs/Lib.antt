@@ -1,6 +1,6 @@
-pub mod Logic
+pub mod ThreeValued
 pub mod Parts
-pub mod Sorting
+pub mod OneOrder
 pub mod Orders
 pub mod Carried
 pub mod Statements

@@ -15,7 +15,7 @@ use Rattle.table_rows.specs.Sort.{stable_sort}
 use Rattle.table_rows.specs.Machine.{Cells, cell_read, cell_of, before, passes, kept, found, behind, up_to, window, item_cells, select, set_cell, set_named, null_row, new_row, set_all, update}
 use Rattle.table_rows.specs.Carry.{comparisons_of, rewritten, rewritten_of, set_rewritten, Carries, Respects, RespectsAll, KeepsOrder, ReadsAs, ReadsNamed, SetsAs, WhereCarried, SortCarried, SelectCarried, CountCarried, InsertCarried, UpdateCarried, DeleteCarried}
 use Rattle.table_rows.proofs.Carried.{at_map, truth-carried}
-use Rattle.table_rows.proofs.Sorting.{stable_sort-map, AreAlike, filter-map, kept_all}
+use Rattle.table_rows.proofs.OneOrder.{stable_sort-map, AreAlike, filter-map, kept_all}
 
 all_by : {X : Type 0} (P Q : X → Type 0) → ((x : X) → P x → Q x) → (xs : List X) → AllByRecursion P xs → AllByRecursion Q xs
 all_by P Q h [] a = tt

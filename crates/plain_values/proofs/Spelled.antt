@@ -84,6 +84,14 @@ pub record IsNumber (kind : ValueKind) (t : List ℕ) : Type 0 where
   pub range : is_in_range kind (signed_digits_value 10 t) ≡ true
   pub wide : is_in_range Int64 (signed_digits_value 10 t) ≡ true
 
+-- a number of 64 bits is the value of its decimal text
+small_of : (z : ℤ) → SFits w64 z → Small z
+small_of (pos n) h = h.sfits
+small_of (negsuc n) h = h.sfits
+
+pub fitting_means : (z : ℤ) → SFits w64 z → signed_digits_value 10 (signed_decimal z) ≡ z
+fitting_means z h = decimal_means z (small_of z h)
+
 from_small : (z : ℤ) → Small z → is_in_range Int64 z ≡ true
 from_small (pos n) h = lt-ltb n (2 ^ 63) h
 from_small (negsuc n) h = lt-ltb n (2 ^ 63) h

@@ -1,6 +1,8 @@
 //! Reading values to their canonical plaintext.
 ghost use Rattle.plain_values.specs.Values.{canonical, canonical_binary, binary_reading, integer_reading, text_reading, bytes_reading, hex_reading, number_reading, within_bound, bounded, reading, plain};
+ghost use Rattle.std.specs.Prelude.{◌≡◌, IfOk};
 ghost use Rattle.std.specs.Fmt.{signed_decimal};
+ghost use Rattle.std.specs.Str.Parse.{signed_digits_value};
 ghost use Rattle.hex.specs.Hex.{decode_of};
 ghost use Rattle.plain_values.specs.Answers.{Answers, IsNumber};
 
@@ -44,7 +46,8 @@ fn append_text(text: &[u8], out: &mut Vec<u8>) -> Result<(), ValueRefusal>
 }
 
 fn number_in_range(kind: ValueKind, number: i64) -> Result<i64, ValueRefusal>
-    ensures { IsNumber (number_reading kind number) result }
+    ensures read { IsNumber (number_reading kind number) result }
+    ensures means { IfOk result (λ n. signed_digits_value 10 (signed_decimal n) ≡ n) }
 {
     if !is_in_range(kind, number) {
         return Err(ValueRefusal::Range);
@@ -77,7 +80,8 @@ fn append_number(
 /// The number that a text spells, as an integer of this kind. Another form is Bad, and a number outside
 /// the kind's range is Range. It takes no memory.
 pub fn read_number(kind: ValueKind, text: &[u8]) -> Result<i64, ValueRefusal>
-    ensures { IsNumber (integer_reading kind text.now) result }
+    ensures read { IsNumber (integer_reading kind text.now) result }
+    ensures means { IfOk result (λ n. signed_digits_value 10 (signed_decimal n) ≡ n) }
 {
     let text = trim_spaces(text);
     if !is_integer_text(text) {

@@ -91,7 +91,7 @@ module _ {C D : Type 0} (cells : Cells C) (others : Cells D) (f : C → D) (g : 
   items_carried ok (i ∷ all) row = let e = cell_carried ok row i.column in let d = items_carried ok all row in cc
 
   pub count_carried : CountCarried cells others f g columns
-  count_carried ok cond rows h = ap length (where_carried ok cond rows h) ∙ length-map (map f) (kept cells columns cond rows)
+  count_carried ok cond rows h = ap length (where_carried ok cond rows h) ∙ length-map (kept cells columns cond rows) (map f)
 
   counted : Carries cells others f g columns → (n m : ℕ) → n ≡ m → (others.count n ∷ []) ∷ [] ≡ map (map f) ((cells.count m ∷ []) ∷ [])
   counted ok n m e = let d = ok.count m in cc

@@ -19,6 +19,8 @@ use Rattle.sql_tree.specs.declared.statement.Statement.{Statement}
 use Rattle.sql_tree.specs.declared.statement.Statement.TheVariants as statement
 use Rattle.table_rows.specs.declared.table.ColumnDef.{ColumnDef}
 use Rattle.table_rows.specs.declared.table.LabFault.{LabFault}
+use Rattle.table_rows.specs.declared.table.BrokenKey.{BrokenKey}
+use Rattle.table_rows.specs.declared.table.BrokenKey.TheVariants as broken
 use Rattle.table_rows.specs.Columns.{same, has_column, kind_of, listed}
 use Rattle.table_rows.specs.Carry.{concat}
 use Rattle.table_rows.specs.Machine.{Cells, Read, value, bad, beyond}
@@ -57,6 +59,14 @@ null_in name = fault_of (codes "23502") (codes "lab: null in column \"" ++ (name
 
 abbrev pub key_twice : List ℕ → LabFault
 key_twice name = fault_of (codes "23505") (codes "lab: key \"" ++ (name ++ codes "\" twice"))
+
+abbrev pub broken_fault : List ℕ → BrokenKey → LabFault
+broken_fault name broken.Null = null_in name
+broken_fault name broken.Twice = key_twice name
+
+abbrev pub are_equal : Option Ordering → Bool
+are_equal (Some o) = is_eq o
+are_equal None = false
 
 -- ---- what stands in a statement, in text order
 
@@ -295,24 +305,24 @@ module _ {C : Type 0} (cells : Cells C) (columns : List ColumnDef) where
   abbrev pub fault : Statement → Option LabFault
   fault tree = or_else (shape_fault columns tree) (value_fault tree)
 
+module _ {C : Type 0} (cells : Cells C) where
   -- ---- the key, after the whole change
 
-  abbrev pub are_equal : Option Ordering → Bool
-  are_equal (Some o) = is_eq o
-  are_equal None = false
+  -- row by row: a key that is NULL, or equal to an earlier one
+  abbrev pub broken_behind : List C → List C → Option BrokenKey
+  broken_behind earlier [] = None
+  broken_behind earlier (key ∷ keys) =
+      if cells.is_null key then Some broken.Null
+      else if list_any (λ c. are_equal (cells.compare key c)) earlier then Some broken.Twice
+      else broken_behind (earlier ++ key ∷ []) keys
 
-  -- row by row: a key that is NULL, or equal to an earlier row's
-  abbrev pub key_fault_behind : List ℕ → ℕ → List C → List (List C) → Option LabFault
-  key_fault_behind name k earlier [] = None
-  key_fault_behind name k earlier (row ∷ rows) =
-      let key = slice_index_or row k cells.null in
-      if cells.is_null key then Some (null_in name)
-      else if list_any (λ c. are_equal (cells.compare key c)) earlier then Some (key_twice name)
-      else key_fault_behind name k (key ∷ earlier) rows
+  abbrev pub keys_at : ℕ → List (List C) → List C
+  keys_at k rows = map (λ row. slice_index_or row k cells.null) rows
 
+module _ {C : Type 0} (cells : Cells C) (columns : List ColumnDef) where
   abbrev pub key_name : ℕ → List ℕ
   key_name k = slice_index_or (map (λ (c : ColumnDef). c.name) columns) k []
 
   abbrev pub key_fault : Option ℕ → List (List C) → Option LabFault
   key_fault None rows = None
-  key_fault (Some k) rows = key_fault_behind (key_name k) k [] rows
+  key_fault (Some k) rows = option_map (broken_fault (key_name k)) (broken_behind cells [] (keys_at cells k rows))

@@ -55,17 +55,23 @@ prefix cell.Null = cell.Null
 -- ---- reading
 
 -- the cell of a plaintext
+abbrev pub integer_cell : List ℕ → Cell
+integer_cell text = cell.Int (signed_digits_value 10 text)
+
 abbrev pub plain_cell : ValueKind → List ℕ → Cell
-plain_cell kind.Str text = cell.Bytes text
-plain_cell kind.Bytes text = cell.Bytes text
-plain_cell kind.Int32 text = cell.Int (signed_digits_value 10 text)
-plain_cell kind.Int64 text = cell.Int (signed_digits_value 10 text)
+plain_cell kind.Str = cell.Bytes
+plain_cell kind.Bytes = cell.Bytes
+plain_cell kind.Int32 = integer_cell
+plain_cell kind.Int64 = integer_cell
+
+abbrev pub read_as : (List ℕ → Cell) → Reading → Read Cell
+read_as as_cell (values.plain text) = value (as_cell text)
+read_as as_cell values.bad = bad
+read_as as_cell values.out_of_range = beyond
+read_as as_cell values.too_long = bad
 
 abbrev pub text_read : ValueKind → Reading → Read Cell
-text_read k (values.plain text) = value (plain_cell k text)
-text_read k values.bad = bad
-text_read k values.out_of_range = beyond
-text_read k values.too_long = bad
+text_read k r = read_as (plain_cell k) r
 
 abbrev pub integer_read : ValueKind → ℤ → Read Cell
 integer_read k n = if is_in_range k n then value (cell.Int n) else beyond

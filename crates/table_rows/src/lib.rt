@@ -15,5 +15,6 @@ pub use cell::Cell;
 pub use filter::{Filter, Term, passes};
 pub use laws::cells_are_carried;
 pub use reading::{ReadFault, read_cell};
+pub use seen::{Seen, are_equal, cell_at, is_null};
 pub use sorting::{SortKey, sort_rows};
-pub use table::{ColumnDef, LabFault, OutColumn, Outcome, TableDef};
+pub use table::{BrokenKey, ColumnDef, LabFault, OutColumn, Outcome, TableDef};

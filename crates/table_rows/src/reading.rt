@@ -3,9 +3,12 @@
 ghost use Rattle.std.specs.Prelude.{◌≡◌, ◌-◌, slice_index_or};
 ghost use Rattle.acra_base.specs.declared.kind.ValueKind.TheVariants as kinds;
 ghost use Rattle.sql_tree.specs.declared.condition.Operand.TheVariants as operand;
-ghost use Rattle.plain_values.specs.Values.{reading};
-ghost use Rattle.table_rows.specs.Reading.{IsRead};
-ghost use Rattle.table_rows.specs.Stored.{integer_read, literal_read, number_read, operand_read, text_read};
+ghost use Rattle.plain_values.specs.Values.{reading, integer_reading};
+ghost use Rattle.table_rows.specs.Reading.{IsRead, fault_of};
+ghost use Rattle.table_rows.specs.Stored.{integer_cell, integer_read, literal_read, number_read, operand_read, read_as, text_read};
+ghost use Rattle.table_rows.specs.Machine as machine;
+ghost use Rattle.table_rows.specs.declared.cell.Cell.TheVariants as cells;
+ghost use Rattle.std.specs.Fmt.{signed_decimal};
 
 use crate::cell::Cell;
 use acra_base::{Bytes, NoMemory, ValueKind};
@@ -24,7 +27,9 @@ pub enum ReadFault {
     NoMemory,
 }
 
-fn fault_of(refusal: ValueRefusal) -> ReadFault {
+fn fault_of(refusal: ValueRefusal) -> ReadFault
+    ensures { result ≡ fault_of refusal }
+{
     match refusal {
         ValueRefusal::Bad | ValueRefusal::TooLong => ReadFault::Bad,
         ValueRefusal::Range => ReadFault::Beyond,
@@ -32,7 +37,9 @@ fn fault_of(refusal: ValueRefusal) -> ReadFault {
     }
 }
 
-fn read_bytes(alloc: Global, kind: ValueKind, text: &[u8]) -> Result<Cell, ReadFault> {
+fn read_bytes(alloc: Global, kind: ValueKind, text: &[u8]) -> Result<Cell, ReadFault>
+    ensures { IsRead (read_as cells.Bytes (reading kind text.now)) result }
+{
     let mut plain = Vec::new(alloc);
     match read_text(alloc, kind, text, &mut plain) {
         Ok(()) => Ok(Cell::Bytes(Bytes::from_vec(plain))),
@@ -40,7 +47,9 @@ fn read_bytes(alloc: Global, kind: ValueKind, text: &[u8]) -> Result<Cell, ReadF
     }
 }
 
-fn read_integer(kind: ValueKind, text: &[u8]) -> Result<Cell, ReadFault> {
+fn read_integer(kind: ValueKind, text: &[u8]) -> Result<Cell, ReadFault>
+    ensures { IsRead (read_as integer_cell (integer_reading kind text.now)) result }
+{
     match read_number(kind, text) {
         Ok(number) => Ok(Cell::Int(number)),
         Err(refusal) => Err(fault_of(refusal)),
@@ -56,7 +65,9 @@ fn read_string(alloc: Global, kind: ValueKind, text: &[u8]) -> Result<Cell, Read
     }
 }
 
-fn decimal(alloc: Global, number: i128) -> Result<Cell, ReadFault> {
+fn decimal(alloc: Global, number: i128) -> Result<Cell, ReadFault>
+    ensures { IsRead (machine.value (cells.Bytes (signed_decimal number))) result }
+{
     match number.to_string(alloc) {
         Ok(text) => match Bytes::copied(alloc, text.as_bytes()) {
             Ok(bytes) => Ok(Cell::Bytes(bytes)),

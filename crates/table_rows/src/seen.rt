@@ -2,16 +2,20 @@
 
 ghost use Rattle.std.specs.Prelude.{◌≡◌, take};
 ghost use Rattle.table_rows.specs.Filters as filters;
-ghost use Rattle.table_rows.specs.Stored.{compare, order, prefix, seen};
+ghost use Rattle.table_rows.specs.Stored.{compare, is_null, order, prefix, seen};
+ghost use Rattle.table_rows.specs.Faults.{are_equal};
 
 use crate::cell::Cell;
 use std::cmp::Ordering;
 
-/// What a cell holds.
+/// A cell looked at without a copy.
 #[derive(Clone, Copy)]
-pub(crate) enum Seen<'a> {
+pub enum Seen<'a> {
+    /// NULL.
     Null,
+    /// An integer.
     Int(i64),
+    /// Text or bytes.
     Bytes(&'a [u8]),
 }
 
@@ -26,7 +30,7 @@ pub(crate) fn see(cell: &Cell) -> Seen<'_>
 }
 
 /// The cell at a place of a row, NULL past the row's end.
-pub(crate) fn cell_at(row: &[Cell], place: u16) -> Seen<'_>
+pub fn cell_at(row: &[Cell], place: u16) -> Seen<'_>
     ensures { seen result ≡ filters.cell_at row.now place }
 {
     match row.get(place as usize) {
@@ -38,10 +42,10 @@ pub(crate) fn cell_at(row: &[Cell], place: u16) -> Seen<'_>
 fn first_33(bytes: &[u8]) -> &[u8]
     ensures { result.now ≡ take 33 bytes.now }
 {
-    if bytes.len() > 33 {
-        return &bytes[..33];
+    if bytes.len() <= 33 {
+        return bytes;
     }
-    bytes
+    &bytes[..33]
 }
 
 /// The first 33 bytes.
@@ -78,4 +82,18 @@ pub(crate) fn order(a: Seen<'_>, b: Seen<'_>) -> Ordering
         (Seen::Null, Seen::Null) => Ordering::Equal,
         (Seen::Null, _) => Ordering::Greater,
     }
+}
+
+/// Whether a cell is NULL.
+pub fn is_null(cell: Seen<'_>) -> bool
+    ensures { result ≡ is_null (seen cell.entry) }
+{
+    matches!(cell, Seen::Null)
+}
+
+/// Whether two cells are equal, and neither is NULL.
+pub fn are_equal(a: Seen<'_>, b: Seen<'_>) -> bool
+    ensures { result ≡ are_equal (compare (seen a.entry) (seen b.entry)) }
+{
+    compare(a, b) == Some(Ordering::Equal)
 }

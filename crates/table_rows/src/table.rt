@@ -42,6 +42,15 @@ pub struct LabFault {
     pub text: Bytes,
 }
 
+/// Why a table's rows can't stand with its key.
+#[derive(Clone, Copy, Debug, PartialEq, Eq)]
+pub enum BrokenKey {
+    /// A row's key is NULL.
+    Null,
+    /// A row's key is equal to an earlier row's.
+    Twice,
+}
+
 /// What a statement gives.
 #[derive(Debug, Drop)]
 pub enum Outcome {

@@ -1,0 +1,13 @@
+//! Tables in memory that execute the statements of the SQL profile.
+#![tactic(auto)]
+
+mod changes;
+mod keys;
+mod queries;
+mod shelf;
+mod tables;
+
+pub use tables::Tables;
+
+#[cfg(test)]
+mod tests;

@@ -4,10 +4,6 @@
 mod changes;
 mod keys;
 mod queries;
-mod shelf;
 mod tables;
 
 pub use tables::Tables;
-
-#[cfg(test)]
-mod tests;

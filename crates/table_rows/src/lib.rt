@@ -18,3 +18,6 @@ pub use reading::{ReadFault, read_cell};
 pub use seen::{Seen, are_equal, cell_at, is_null};
 pub use sorting::{SortKey, sort_rows};
 pub use table::{BrokenKey, ColumnDef, LabFault, OutColumn, Outcome, TableDef};
+
+#[cfg(test)]
+mod tests;

@@ -219,6 +219,8 @@ fn entries_that_break_a_rule(rt: HostRuntime) -> Result<(), Fail> {
         (r#""column":"a","crypto_envelope":"other""#, 8),
         (r#""column":"a","token_type":"str","data_type":"int32""#, 8),
         (r#""column":"a","searchable":true,"masking":"x""#, 9),
+        (r#""column":"a","searchable":true,"token_type":"str""#, 9),
+        (r#""column":"a","masking":"x","token_type":"str""#, 9),
         (r#""column":"a","masking":"x""#, 10),
         (r#""column":"a","plaintext_side":"left""#, 10),
         (r#""column":"a","tokenized":true"#, 11),
@@ -302,6 +304,10 @@ fn defaults(rt: HostRuntime) -> Result<(), Fail> {
             r#""data_type":"int32","response_on_fail":"default_value","default_data_value":"2147483648""#,
             13,
         ),
+        (
+            r#""data_type":"str","response_on_fail":"default_value","default_data_value":"x\u0000""#,
+            13,
+        ),
     ];
     for (members, rule) in cases {
         assert!(rt; rule_of(rt.alloc(), members)? == rule, "{members}");
@@ -350,6 +356,50 @@ fn add_table(text: &mut String, table: u32, columns: u32) -> Result<(), AllocErr
         write!(text, r#",{{"column":"c{i}","client_id":"c{i}"}}"#)?;
     }
     text.push_str("]}")?;
+    Ok(())
+}
+
+/// The rule that an entry breaks whose default is so many times `x`, 0 where it breaks none.
+fn rule_of_default(alloc: Global, count: usize) -> Result<u8, AllocError> {
+    let mut text = String::from_str(
+        alloc,
+        r#""data_type":"str","response_on_fail":"default_value","default_data_value":""#,
+    )?;
+    for _ in 0..count {
+        text.push_str("x")?;
+    }
+    text.push_str("\"")?;
+    rule_of(alloc, text.as_str())
+}
+
+#[test]
+fn the_longest_default(rt: HostRuntime) -> Result<(), Fail> {
+    for (count, rule) in [(0, 0), (1024, 0), (1025, 13)] {
+        assert!(rt; rule_of_default(rt.alloc(), count)? == rule);
+    }
+    Ok(())
+}
+
+/// A table of one column with so many entries of it.
+fn many_entries(alloc: Global, count: u32) -> Result<String, AllocError> {
+    let mut text = String::from_str(
+        alloc,
+        r#"{"schemas":[{"table":"t","columns":["a"],"encrypted":[{"column":"a"}"#,
+    )?;
+    for _ in 1..count {
+        text.push_str(r#",{"column":"a"}"#)?;
+    }
+    text.push_str("]}]}")?;
+    Ok(text)
+}
+
+// One rule is broken with 256 entries of a column, and a lesser one with 257.
+#[test]
+fn the_257th_entry(rt: HostRuntime) -> Result<(), Fail> {
+    for (count, expected) in [(256, (0, 1, 5)), (257, (0, NO_PLACE, 2))] {
+        let text = many_entries(rt.alloc(), count)?;
+        assert!(rt; refusal_of(rt.alloc(), text.as_str()) == expected);
+    }
     Ok(())
 }
 

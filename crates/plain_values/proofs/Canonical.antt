@@ -1,12 +1,9 @@
 -- What reading gives is canonical.
 use Rattle.std.proofs.Common.{◌≡◌, ◌≤◌, ◌==◌, ℕ, List, [], length, drop, Bool, true, false, refl, sym, ap, ◌∙◌, inl, inr, true≢false, nat_le, if◌then◌else◌, ℤ, Result, Ok, Err}
 use Rattle.std.proofs.lemmas.Bool.{cases_Bool, cond-true, cond-false, leb-true}
-use Rattle.std.specs.List.{list_any}
 use Rattle.std.specs.Fmt.{signed_decimal}
 use Rattle.std.specs.Str.Parse.{signed_digits_value}
-use Rattle.hex.specs.Hex.{decode_of}
-use Rattle.hex.specs.declared.error.FromHexError.{FromHexError}
-use Rattle.plain_values.specs.Values.{Reading, plain, bad, out_of_range, too_long, most_plain, within_bound, text_reading, hex_reading, bytes_reading, is_hex_form, is_plain_text, is_in_range, number_reading, trim_spaces, is_integer_text, integer_reading, is_text_type, binary_size, signed_of, binary_reading, canonical, canonical_binary, IsCanonical}
+use Rattle.plain_values.specs.Values.{Reading, plain, bad, out_of_range, too_long, most_plain, within_bound, bounded, text_reading, bytes_reading, is_plain_text, is_in_range, number_reading, trim_spaces, is_integer_text, integer_reading, is_text_type, binary_size, signed_of, binary_reading, canonical, canonical_binary, IsCanonical}
 use Rattle.acra_base.specs.declared.kind.ValueKind.{ValueKind}
 use Rattle.acra_base.specs.declared.kind.ValueKind.TheVariants.{Str, Bytes, Int32, Int64}
 
@@ -36,28 +33,25 @@ record IsBounded (t p : List ℕ) : Type 0 where
   same : p ≡ t
   most : length p ≤ most_plain
 
-bounded : (t p : List ℕ) → within_bound t ≡ plain p → IsBounded t p
-bounded t p h = taken (nat_le (length t) most_plain) (plain t) too_long p refl h (λ low e.
+within : (t p : List ℕ) → within_bound t ≡ plain p → IsBounded t p
+within t p h = taken (nat_le (length t) most_plain) (plain t) too_long p refl h (λ low e.
     let same : p ≡ t = sym (ap given e) in
     record { same = same; most = rw same (leb-true (length t) most_plain low) })
 
-text_canonical : (t p : List ℕ) → text_reading t ≡ plain p → IsCanonical Str p
-text_canonical t p h = taken (is_plain_text t) (within_bound t) bad p refl h (λ text e.
-    let within = bounded t p e in
-    (rw within.same text, within.most))
+-- what was read within the bound
+read_within : {A : Type 0} (r : Reading) (p : List ℕ) → bounded r ≡ plain p → ((t : List ℕ) → r ≡ plain t → IsBounded t p → A) → A
+read_within (plain t) p h so = so t refl (within t p h)
+read_within bad p h so = nothing bad p refl h
+read_within out_of_range p h so = nothing out_of_range p refl h
+read_within too_long p h so = nothing too_long p refl h
 
-hex_canonical : (r : Result (List ℕ) FromHexError) (p : List ℕ) → hex_reading r ≡ plain p → IsCanonical Bytes p
-hex_canonical (Ok t) p h = (bounded t p h).most
-hex_canonical (Err e) p h = nothing bad p refl h
+text_canonical : (t p : List ℕ) → bounded (text_reading t) ≡ plain p → IsCanonical Str p
+text_canonical t p h = read_within (text_reading t) p h (λ u read short. taken (is_plain_text t) (plain t) bad u refl read (λ text e.
+    let same : t ≡ p = ap given e ∙ sym short.same in
+    (rw (sym same) text, short.most)))
 
-bytes_canonical : (t p : List ℕ) → bytes_reading t ≡ plain p → IsCanonical Bytes p
-bytes_canonical t p h = elim (cases_Bool (is_hex_form t)) [
-  | inl here ↦ hex_canonical (decode_of (drop 2 t)) p (sym (cond-true (is_hex_form t) _ _ here) ∙ h)
-  | inr other ↦ elim (cases_Bool (list_any (λ b. b == 92) t)) [
-    | inl slash ↦ nothing bad p refl (sym (cond-true (list_any (λ b. b == 92) t) _ _ slash) ∙ (sym (cond-false (is_hex_form t) _ _ other) ∙ h))
-    | inr none ↦ (bounded t p (sym (cond-false (list_any (λ b. b == 92) t) _ _ none) ∙ (sym (cond-false (is_hex_form t) _ _ other) ∙ h))).most
-  ]
-]
+bytes_canonical : (t p : List ℕ) → bounded (bytes_reading t) ≡ plain p → IsCanonical Bytes p
+bytes_canonical t p h = read_within (bytes_reading t) p h (λ u read short. short.most)
 
 -- a canonical number
 abbrev IsDecimal : ValueKind → List ℕ → Type 0
@@ -85,6 +79,6 @@ text_is_canonical Int64 t p h = integer_canonical Int64 t p h
 
 pub binary_is_canonical : (kind : ValueKind) (declared : ℕ) (t p : List ℕ) → canonical_binary kind declared t ≡ plain p → IsCanonical kind p
 binary_is_canonical Str declared t p h = text_canonical t p h
-binary_is_canonical Bytes declared t p h = (bounded t p h).most
+binary_is_canonical Bytes declared t p h = (within t p h).most
 binary_is_canonical Int32 declared t p h = binary_canonical Int32 declared t p h
 binary_is_canonical Int64 declared t p h = binary_canonical Int64 declared t p h

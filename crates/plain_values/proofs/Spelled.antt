@@ -17,7 +17,7 @@ use mir.Val.{SFits}
 use Rattle.hex.specs.Hex.{IsBytes, decode_of, encode_lower}
 use Rattle.hex.proofs.HexLemmas.{decode_of-encode_lower}
 use Rattle.std.proofs.lemmas.List.{reverse-append, reverse-reverse}
-use Rattle.plain_values.specs.Values.{IsCanonical, canonical, canonical_binary, text_spelling, binary_spelling, integer_bytes, most_plain, within_bound, text_reading, hex_reading, is_plain_text, plain, too_long, is_integer_text, is_in_range, skip_spaces, trim_spaces, integer_reading, number_reading, signed_of}
+use Rattle.plain_values.specs.Values.{IsCanonical, canonical, canonical_binary, text_spelling, binary_spelling, integer_bytes, most_plain, within_bound, bounded, text_reading, hex_reading, is_plain_text, plain, bad, too_long, is_integer_text, is_in_range, skip_spaces, trim_spaces, integer_reading, number_reading, signed_of}
 use Rattle.acra_base.specs.declared.kind.ValueKind.{ValueKind}
 use Rattle.acra_base.specs.declared.kind.ValueKind.TheVariants.{Str, Bytes, Int32, Int64}
 use Rattle.plain_values.specs.Values.{is_integer}
@@ -84,6 +84,14 @@ pub record IsNumber (kind : ValueKind) (t : List ℕ) : Type 0 where
   pub range : is_in_range kind (signed_digits_value 10 t) ≡ true
   pub wide : is_in_range Int64 (signed_digits_value 10 t) ≡ true
 
+-- a number of 64 bits is the value of its decimal text
+small_of : (z : ℤ) → SFits w64 z → Small z
+small_of (pos n) h = h.sfits
+small_of (negsuc n) h = h.sfits
+
+pub fitting_means : (z : ℤ) → SFits w64 z → signed_digits_value 10 (signed_decimal z) ≡ z
+fitting_means z h = decimal_means z (small_of z h)
+
 from_small : (z : ℤ) → Small z → is_in_range Int64 z ≡ true
 from_small (pos n) h = lt-ltb n (2 ^ 63) h
 from_small (negsuc n) h = lt-ltb n (2 ^ 63) h
@@ -134,8 +142,8 @@ decimal_no_space (negsuc n) h = let low : suc n < 2 ^ 64 = omega arith in digits
 
 -- ---- reading back
 
-bounded : (t : List ℕ) → length t ≤ most_plain → within_bound t ≡ plain t
-bounded t h = cond-true (nat_le (length t) most_plain) (plain t) too_long (le-leb (length t) most_plain h)
+within : (t : List ℕ) → length t ≤ most_plain → within_bound t ≡ plain t
+within t h = cond-true (nat_le (length t) most_plain) (plain t) too_long (le-leb (length t) most_plain h)
 
 number_back : (kind : ValueKind) (z w : ℤ) → is_in_range kind z ≡ true → w ≡ z → number_reading kind w ≡ plain (signed_decimal z)
 number_back kind z w h is = rw (is, h) refl
@@ -147,11 +155,11 @@ integer_back kind t z h small is =
     let means : signed_digits_value 10 (trim_spaces t) ≡ z = ap (signed_digits_value 10) (trimmed ∙ is) ∙ decimal_means z small in
     cond-true (is_integer_text (trim_spaces t)) _ _ text ∙ (number_back kind z _ h means ∙ ap plain (sym is))
 
-text_back : (t : List ℕ) → is_plain_text t ≡ true → length t ≤ most_plain → text_reading t ≡ plain t
-text_back t h short = cond-true (is_plain_text t) _ _ h ∙ bounded t short
+text_back : (t : List ℕ) → is_plain_text t ≡ true → length t ≤ most_plain → bounded (text_reading t) ≡ plain t
+text_back t h short = ap bounded (cond-true (is_plain_text t) (plain t) bad h) ∙ within t short
 
-hex_back : (t : List ℕ) → IsBytes t → length t ≤ most_plain → hex_reading (decode_of (encode_lower t)) ≡ plain t
-hex_back t h short = ap hex_reading (decode_of-encode_lower t h) ∙ bounded t short
+hex_back : (t : List ℕ) → IsBytes t → length t ≤ most_plain → bounded (hex_reading (decode_of (encode_lower t))) ≡ plain t
+hex_back t h short = ap (λ r. bounded (hex_reading r)) (decode_of-encode_lower t h) ∙ within t short
 
 pub text_reads_back : (kind : ValueKind) (t : List ℕ) → IsBytes t → IsCanonical kind t → canonical kind (text_spelling kind t) ≡ plain t
 text_reads_back Str t bytes h = text_back t h.0 h.1
@@ -189,6 +197,6 @@ binary_64 t z h is =
 
 pub binary_reads_back : (kind : ValueKind) (t : List ℕ) → IsCanonical kind t → canonical_binary kind 0 (binary_spelling kind t) ≡ plain t
 binary_reads_back Str t h = text_back t h.0 h.1
-binary_reads_back Bytes t h = bounded t h
+binary_reads_back Bytes t h = within t h
 binary_reads_back Int32 t h = binary_32 t h.0 h.1 h.2
 binary_reads_back Int64 t h = binary_64 t h.0 h.1 h.2

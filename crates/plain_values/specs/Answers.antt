@@ -1,5 +1,6 @@
 -- Why a value is refused.
-use Rattle.std.specs.Prelude.{ℕ, ◌≡◌, ◌++◌, List, Result, Ok, Err}
+use Rattle.std.specs.Prelude.{ℕ, ℤ, ◌≡◌, ◌++◌, List, Result, Ok, Err}
+use Rattle.std.specs.Fmt.{signed_decimal}
 use Rattle.plain_values.specs.Values.{Reading, plain, bad, out_of_range, too_long}
 use Rattle.plain_values.specs.declared.refusal.ValueRefusal.{ValueRefusal}
 use Rattle.plain_values.specs.declared.refusal.ValueRefusal.TheVariants.{Bad, Range, TooLong, NoMemory}
@@ -22,3 +23,11 @@ Appends too_long old new = ⊥
 abbrev pub Answers : {U : Type 0} → Reading → List ℕ → List ℕ → Result U ValueRefusal → Type 0
 Answers r old new (Ok u) = Appends r old new
 Answers r old new (Err why) = IsWhy r why × (new ≡ old)
+
+-- a reading is that of a number, or is refused; no memory is needed
+abbrev pub IsNumber : Reading → Result ℤ ValueRefusal → Type 0
+IsNumber r (Ok n) = r ≡ plain (signed_decimal n)
+IsNumber r (Err Bad) = r ≡ bad
+IsNumber r (Err Range) = r ≡ out_of_range
+IsNumber r (Err TooLong) = ⊥
+IsNumber r (Err NoMemory) = ⊥

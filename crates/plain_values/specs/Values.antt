@@ -25,6 +25,13 @@ most_plain = 262144
 abbrev pub within_bound : List ℕ → Reading
 within_bound t = if nat_le (length t) most_plain then plain t else too_long
 
+-- a plaintext is not longer
+abbrev pub bounded : Reading → Reading
+bounded (plain t) = within_bound t
+bounded bad = bad
+bounded out_of_range = out_of_range
+bounded too_long = too_long
+
 -- ---- integers
 
 -- spaces (0x20) at the front fall away
@@ -72,7 +79,7 @@ abbrev pub is_plain_text : List ℕ → Bool
 is_plain_text t = is_utf8 t && list_all (λ b. not (b == 0)) t
 
 abbrev pub text_reading : List ℕ → Reading
-text_reading t = if is_plain_text t then within_bound t else bad
+text_reading t = if is_plain_text t then plain t else bad
 
 -- a text in hexadecimal form begins with `\x`
 abbrev pub is_hex_form : List ℕ → Bool
@@ -81,21 +88,28 @@ is_hex_form (a ∷ []) = false
 is_hex_form [] = false
 
 abbrev pub hex_reading : Result (List ℕ) FromHexError → Reading
-hex_reading (Ok bytes) = within_bound bytes
+hex_reading (Ok bytes) = plain bytes
 hex_reading (Err e) = bad
 
 abbrev pub bytes_reading : List ℕ → Reading
 bytes_reading t =
     if is_hex_form t then hex_reading (decode_of (drop 2 t))
     else if list_any (λ b. b == 92) t then bad
-    else within_bound t
+    else plain t
 
 -- ---- the canonical plaintext
 
--- from a text
+-- from a text of any length
+abbrev pub reading : ValueKind → List ℕ → Reading
+reading Str t = text_reading t
+reading Bytes t = bytes_reading t
+reading Int32 t = integer_reading Int32 t
+reading Int64 t = integer_reading Int64 t
+
+-- from a text, within the bound; an integer's is short
 abbrev pub canonical : ValueKind → List ℕ → Reading
-canonical Str t = text_reading t
-canonical Bytes t = bytes_reading t
+canonical Str t = bounded (text_reading t)
+canonical Bytes t = bounded (bytes_reading t)
 canonical Int32 t = integer_reading Int32 t
 canonical Int64 t = integer_reading Int64 t
 
@@ -119,7 +133,7 @@ binary_reading kind declared t =
 
 -- from binary form, under a declared type
 abbrev pub canonical_binary : ValueKind → ℕ → List ℕ → Reading
-canonical_binary Str declared t = text_reading t
+canonical_binary Str declared t = bounded (text_reading t)
 canonical_binary Bytes declared t = within_bound t
 canonical_binary Int32 declared t = binary_reading Int32 declared t
 canonical_binary Int64 declared t = binary_reading Int64 declared t

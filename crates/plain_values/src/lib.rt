@@ -9,7 +9,7 @@ mod spelling;
 mod texts;
 
 pub use laws::{read_is_canonical, spelled_again};
-pub use reading::{MOST_PLAIN, canonical_binary, canonical_text};
+pub use reading::{MOST_PLAIN, canonical_binary, canonical_text, read_number, read_text};
 pub use refusal::ValueRefusal;
 pub use spelling::spell;
 pub use texts::is_plain_text;

@@ -1,7 +1,10 @@
 //! Reading values to their canonical plaintext.
-ghost use Rattle.plain_values.specs.Values.{canonical, canonical_binary, binary_reading, integer_reading, text_reading, bytes_reading, hex_reading, number_reading, within_bound};
+ghost use Rattle.plain_values.specs.Values.{canonical, canonical_binary, binary_reading, integer_reading, text_reading, bytes_reading, hex_reading, number_reading, within_bound, bounded, reading, plain};
+ghost use Rattle.std.specs.Prelude.{◌≡◌, IfOk};
+ghost use Rattle.std.specs.Fmt.{signed_decimal};
+ghost use Rattle.std.specs.Str.Parse.{signed_digits_value};
 ghost use Rattle.hex.specs.Hex.{decode_of};
-ghost use Rattle.plain_values.specs.Answers.{Answers};
+ghost use Rattle.plain_values.specs.Answers.{Answers, IsNumber};
 
 use crate::numbers::{binary_size, is_in_range, is_text_type, number_of, signed_of};
 use crate::refusal::ValueRefusal;
@@ -23,13 +26,41 @@ fn append_plain(plain: &[u8], out: &mut Vec<u8>) -> Result<(), ValueRefusal>
     Ok(())
 }
 
+fn append_short_text(text: &[u8], out: &mut Vec<u8>) -> Result<(), ValueRefusal>
+    ensures { Answers (bounded (text_reading text.now)) out.old.items out.new.items result }
+{
+    if !is_plain_text(text) {
+        return Err(ValueRefusal::Bad);
+    }
+    append_plain(text, out)
+}
+
 fn append_text(text: &[u8], out: &mut Vec<u8>) -> Result<(), ValueRefusal>
     ensures { Answers (text_reading text.now) out.old.items out.new.items result }
 {
     if !is_plain_text(text) {
         return Err(ValueRefusal::Bad);
     }
-    append_plain(text, out)
+    out.extend_from_slice(text)?;
+    Ok(())
+}
+
+fn number_in_range(kind: ValueKind, number: i64) -> Result<i64, ValueRefusal>
+    ensures read { IsNumber (number_reading kind number) result }
+    ensures means { IfOk result (λ n. signed_digits_value 10 (signed_decimal n) ≡ n) }
+{
+    if !is_in_range(kind, number) {
+        return Err(ValueRefusal::Range);
+    }
+    Ok(number)
+}
+
+fn append_decimal(alloc: Global, number: i64, out: &mut Vec<u8>) -> Result<(), ValueRefusal>
+    ensures { Answers (plain (signed_decimal number)) out.old.items out.new.items result }
+{
+    let text = number.to_string(alloc)?;
+    out.extend_from_slice(text.as_bytes())?;
+    Ok(())
 }
 
 fn append_number(
@@ -40,12 +71,26 @@ fn append_number(
 ) -> Result<(), ValueRefusal>
     ensures { Answers (number_reading kind number) out.old.items out.new.items result }
 {
-    if !is_in_range(kind, number) {
-        return Err(ValueRefusal::Range);
+    match number_in_range(kind, number) {
+        Ok(number) => append_decimal(alloc, number, out),
+        Err(refusal) => Err(refusal),
     }
-    let text = number.to_string(alloc)?;
-    out.extend_from_slice(text.as_bytes())?;
-    Ok(())
+}
+
+/// The number that a text spells, as an integer of this kind. Another form is Bad, and a number outside
+/// the kind's range is Range. It takes no memory.
+pub fn read_number(kind: ValueKind, text: &[u8]) -> Result<i64, ValueRefusal>
+    ensures read { IsNumber (integer_reading kind text.now) result }
+    ensures means { IfOk result (λ n. signed_digits_value 10 (signed_decimal n) ≡ n) }
+{
+    let text = trim_spaces(text);
+    if !is_integer_text(text) {
+        return Err(ValueRefusal::Bad);
+    }
+    match number_of(text) {
+        Some(number) => number_in_range(kind, number),
+        None => Err(ValueRefusal::Range),
+    }
 }
 
 fn append_integer(
@@ -56,13 +101,9 @@ fn append_integer(
 ) -> Result<(), ValueRefusal>
     ensures { Answers (integer_reading kind text.now) out.old.items out.new.items result }
 {
-    let text = trim_spaces(text);
-    if !is_integer_text(text) {
-        return Err(ValueRefusal::Bad);
-    }
-    match number_of(text) {
-        Some(number) => append_number(alloc, kind, number, out),
-        None => Err(ValueRefusal::Range),
+    match read_number(kind, text) {
+        Ok(whole) => append_decimal(alloc, whole, out),
+        Err(refusal) => Err(refusal),
     }
 }
 
@@ -70,7 +111,10 @@ fn append_hex(alloc: Global, digits: &[u8], out: &mut Vec<u8>) -> Result<(), Val
     ensures { Answers (hex_reading (decode_of digits.now)) out.old.items out.new.items result }
 {
     match hex::decode(alloc, digits) {
-        Ok(bytes) => append_plain(&bytes, out),
+        Ok(bytes) => {
+            out.extend_from_slice(&bytes)?;
+            Ok(())
+        }
         Err(FromHexError::OutOfMemory) => Err(ValueRefusal::NoMemory),
         Err(_) => Err(ValueRefusal::Bad),
     }
@@ -84,7 +128,35 @@ fn append_bytes(alloc: Global, text: &[u8], out: &mut Vec<u8>) -> Result<(), Val
     } else if has_backslash(text) {
         Err(ValueRefusal::Bad)
     } else {
-        append_plain(text, out)
+        out.extend_from_slice(text)?;
+        Ok(())
+    }
+}
+
+fn append_short_bytes(alloc: Global, text: &[u8], out: &mut Vec<u8>) -> Result<(), ValueRefusal>
+    ensures { Answers (bounded (bytes_reading text.now)) out.old.items out.new.items result }
+{
+    let mut plain = Vec::new(alloc);
+    match append_bytes(alloc, text, &mut plain) {
+        Ok(()) => append_plain(&plain, out),
+        Err(refusal) => Err(refusal),
+    }
+}
+
+/// Appends the plaintext of a value in text form, as `canonical_text` does, whatever its length: it is
+/// never TooLong.
+pub fn read_text(
+    alloc: Global,
+    kind: ValueKind,
+    text: &[u8],
+    out: &mut Vec<u8>,
+) -> Result<(), ValueRefusal>
+    ensures { Answers (reading kind text.now) out.old.items out.new.items result }
+{
+    match kind {
+        ValueKind::Str => append_text(text, out),
+        ValueKind::Bytes => append_bytes(alloc, text, out),
+        ValueKind::Int32 | ValueKind::Int64 => append_integer(alloc, kind, text, out),
     }
 }
 
@@ -108,8 +180,8 @@ pub fn canonical_text(
     ensures { Answers (canonical kind text.now) out.old.items out.new.items result }
 {
     match kind {
-        ValueKind::Str => append_text(text, out),
-        ValueKind::Bytes => append_bytes(alloc, text, out),
+        ValueKind::Str => append_short_text(text, out),
+        ValueKind::Bytes => append_short_bytes(alloc, text, out),
         ValueKind::Int32 | ValueKind::Int64 => append_integer(alloc, kind, text, out),
     }
 }
@@ -152,7 +224,7 @@ pub fn canonical_binary(
     ensures { Answers (canonical_binary kind declared bytes.now) out.old.items out.new.items result }
 {
     match kind {
-        ValueKind::Str => append_text(bytes, out),
+        ValueKind::Str => append_short_text(bytes, out),
         ValueKind::Bytes => append_plain(bytes, out),
         ValueKind::Int32 | ValueKind::Int64 => append_binary(alloc, kind, declared, bytes, out),
     }

@@ -1,0 +1,5 @@
+pub mod Keys
+pub mod Finding
+pub mod Changing
+pub mod Shelves
+pub mod Doing

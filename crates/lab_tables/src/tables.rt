@@ -42,7 +42,7 @@ impl Model for Tables {
 
 /// The table that a statement is on.
 fn table_of(statement: &Statement) -> Option<&Name>
-    ensures { option_copied result ≡ table_named (stored []) statement.now }
+    ensures { option_copied result ≡ table_named statement.now }
 {
     match statement {
         Statement::Select { table, .. }

@@ -4,7 +4,7 @@ use Rattle.std.specs.List.{list_any}
 use Rattle.sql_tree.specs.declared.condition.Cond.{Cond}
 use Rattle.sql_tree.specs.declared.condition.Operand.{Operand}
 use Rattle.sql_tree.specs.declared.statement.SetPair.{SetPair}
-use Rattle.table_checks.specs.declared.rows.SetCell.{SetCell}
+use Rattle.table_checks.specs.declared.sets.SetCell.{SetCell}
 use Rattle.table_checks.specs.Sets.{set_cells}
 use Rattle.table_rows.specs.declared.cell.Cell.{Cell}
 use Rattle.table_rows.specs.declared.filter.Filter.{Filter}

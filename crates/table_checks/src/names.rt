@@ -51,6 +51,14 @@ impl Named for SetPair {
     }
 }
 
+impl Named for ColumnDef {
+    ghost name = { λ c. c.name };
+
+    fn name(&self) -> &Name {
+        &self.name
+    }
+}
+
 fn same(a: &Name, b: &Name) -> bool
     ensures { result ≡ columns_spec.same a.now b.now }
 {
@@ -68,6 +76,15 @@ pub(crate) fn place_of(columns: &[ColumnDef], name: &Name) -> usize
         }
     }
     columns.len()
+}
+
+/// The same as it is kept in a bound part.
+pub(crate) fn place(columns: &[ColumnDef], name: &Name) -> u16
+    requires { length columns.now ≤ 256 }
+    ensures place { result ≡ columns_spec.column_place columns.now name.now }
+    ensures within { result ≤ 256 }
+{
+    place_of(columns, name) as u16
 }
 
 /// What the values of a column are; bytes where there is no such column.

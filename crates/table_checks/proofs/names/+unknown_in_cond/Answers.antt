@@ -1,7 +1,6 @@
-use Rattle.std.proofs.Common.{◌≡◌, ◌∙◌, ap, sym, List, ℕ, Bool, map}
+use Rattle.std.proofs.Common.{◌≡◌, ◌∙◌, ap, sym, List, ℕ, Bool}
 use Rattle.sql_tree.specs.declared.condition.Cond.{Cond}
 use Rattle.sql_tree.specs.declared.condition.Cond.TheVariants as tree
-use Rattle.table_rows.specs.Carry.{concat}
 use Rattle.table_rows.specs.Faults.{first, first_of, cond_names, cond_names_step}
 use Rattle.table_checks.specs.Naming.{is_unknown}
 use Rattle.table_checks.proofs.Layers.{at-And, at-Or}

@@ -1,4 +1,4 @@
-use Rattle.std.proofs.Common.{◌≡◌, ◌∙◌, ap, sym, map, take}
+use Rattle.std.proofs.Common.{◌∙◌, ap, sym, map, take}
 use Rattle.std.specs.List.{list_any}
 use Rattle.table_rows.specs.Columns.{same}
 use Rattle.std.proofs.Common.{Some}

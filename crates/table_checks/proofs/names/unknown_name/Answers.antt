@@ -1,6 +1,5 @@
-use Rattle.std.proofs.Common.{◌≡◌, ◌∙◌, ap, sym, map}
+use Rattle.std.proofs.Common.{◌∙◌, ap, sym, map}
 use Rattle.sql_tree.specs.declared.statement.OrderKey.{OrderKey}
-use Rattle.sql_tree.specs.declared.statement.SetPair.{SetPair}
 use Rattle.table_rows.specs.Faults.{first, item_names, where_names, set_names, names_in}
 use Rattle.table_checks.specs.Naming.{is_unknown}
 use Rattle.table_checks.proofs.Firsts.{two}

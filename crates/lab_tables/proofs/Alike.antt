@@ -27,3 +27,7 @@ put_first p e x (y ∷ ys) = rw (e y x) refl
 pub sort_none : {X : Type 0} (p : X → X → Bool) → ((x y : X) → p x y ≡ false) → (xs : List X) → stable_sort p xs ≡ xs
 sort_none p e [] = refl
 sort_none p e (x ∷ xs) = ap (put p x) (sort_none p e xs) ∙ put_first p e x xs
+
+pub map_map : {X Y Z : Type 0} (f : X → Y) (g : Y → Z) (xs : List X) → map g (map f xs) ≡ map (λ x. g (f x)) xs
+map_map f g [] = refl
+map_map f g (x ∷ xs) = ap (λ w. g (f x) ∷ w) (map_map f g xs)

@@ -84,10 +84,12 @@ fewer_both less more key few other e =
     let p = any_append (λ c. are_equal (compare other c)) more key [] e in
     let kept : list_any (λ c. are_equal (compare other c)) more ≡ false = ap (λ w. list_any (λ c. are_equal (compare other c)) w) (sym (plus_nil more)) ∙ p.0 in
     any_join (λ c. are_equal (compare other c)) less key (few other kept) p.1
+
 fewer_one : (less more : List Cell) (key : Cell) → IsFewer less more → IsFewer less (more ++ key ∷ [])
 fewer_one less more key few other e =
     let p = any_append (λ c. are_equal (compare other c)) more key [] e in
     few other (ap (λ w. list_any (λ c. are_equal (compare other c)) w) (sym (plus_nil more)) ∙ p.0)
+
 kept_step : {R : Type 0} (key_of : R → Cell) (less : List Cell) (row : R) (kept : List R) (b : Bool)
     → is_null (key_of row) ≡ false → list_any (λ c. are_equal (compare (key_of row) c)) less ≡ false
     → broken_stored (less ++ key_of row ∷ []) (map key_of kept) ≡ None → broken_stored less (map key_of kept) ≡ None

@@ -5,7 +5,11 @@ use Rattle.table_rows.specs.declared.cell.Cell.{Cell}
 use Rattle.table_rows.specs.declared.table.TableDef.{TableDef}
 use Rattle.table_rows.specs.Columns.{place}
 use Rattle.table_rows.specs.Tables.{Table, is_table}
-use Rattle.lab_tables.specs.Shelves.{joined, empty_table, is_def}
+use Rattle.table_rows.specs.declared.table.ColumnDef.{ColumnDef}
+use Rattle.table_rows.specs.Faults.{key_fault}
+use Rattle.table_rows.specs.Stored.{stored}
+use Rattle.std.proofs.lemmas.List.{map-append}
+use Rattle.lab_tables.specs.Shelves.{joined, empty_table, is_def, AllHold}
 
 abbrev Rows : Type 0
 Rows = List (List Cell)
@@ -46,3 +50,19 @@ pub grow_joined : (defs : List TableDef) (rows : List Rows) → joined defs (row
 grow_joined [] rows = refl
 grow_joined (def ∷ defs) [] = refl
 grow_joined (def ∷ defs) (r ∷ rows) = ap (λ w. record { def = def; rows = r } ∷ w) (grow_joined defs rows)
+
+pub length_push : {X : Type 0} (xs : List X) (x : X) → length (xs ++ x ∷ []) ≡ length xs + 1
+length_push [] x = refl
+length_push (y ∷ xs) x = let e = length_push xs x in omega arith
+
+pub grown : {X : Type 0} (view : X → Rows) (defs : List TableDef) (xs : List X) (x : X) → view x ≡ [] → joined defs (map view (xs ++ x ∷ [])) ≡ joined defs (map view xs)
+grown view defs xs x e = ap (joined defs) (map-append view xs (x ∷ []) ∙ ap (λ w. map view xs ++ w ∷ []) e) ∙ grow_joined defs (map view xs)
+
+-- tables without rows hold
+empty_holds : (columns : List ColumnDef) (key : Option ℕ) → key_fault (stored []) columns key [] ≡ None
+empty_holds columns None = refl
+empty_holds columns (Some k) = refl
+
+pub empty_hold : (defs : List TableDef) → AllHold (joined defs [])
+empty_hold [] = tt
+empty_hold (def ∷ defs) = (empty_holds def.columns def.key, empty_hold defs)

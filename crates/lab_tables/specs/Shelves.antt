@@ -1,6 +1,6 @@
 -- The tables that a machine holds: their definitions, and the rows of the first of them; the others have none.
 use Rattle.std.specs.Prelude.{ℕ, ◌≡◌, ◌≤◌, ◌<◌, Bool, true, false, not, ◌&&◌, List, [], ◌∷◌, map, length, Option, Some, None}
-use Rattle.std.specs.List.{All, list_any}
+use Rattle.std.specs.List.{All, AllByRecursion, list_any}
 use Rattle.acra_base.specs.declared.kind.ValueKind.{ValueKind}
 use Rattle.table_rows.specs.declared.cell.Cell.{Cell}
 use Rattle.table_rows.specs.declared.table.ColumnDef.{ColumnDef}
@@ -46,4 +46,4 @@ is_def name def = same def.name name
 
 -- each table's key holds of its rows
 abbrev pub AllHold : List (Table Cell) → Type 0
-AllHold tables = All (λ (t : Table Cell). KeyHolds t.def t.rows) tables
+AllHold tables = AllByRecursion (λ (t : Table Cell). KeyHolds t.def t.rows) tables

@@ -10,6 +10,8 @@ ghost use Rattle.table_rows.specs.Tables.{change, performed};
 ghost use Rattle.sql_tree.specs.declared.statement.Statement.TheVariants as statement;
 ghost use Rattle.lab_tables.specs.Changing.{KeyHolds, changed_fault, chosen, chosen_rows, keys_in, new_fault, replacement, sets_place, update_fault};
 ghost use Rattle.lab_tables.specs.Doing.{IsDone};
+ghost use Rattle.lab_tables.specs.Updating.{BindsUpdate};
+ghost use Rattle.table_checks.specs.Binding.{IsBound};
 ghost use Rattle.lab_tables.specs.Shelves.{IsTable};
 
 use crate::keys::first_broken;
@@ -118,11 +120,7 @@ fn replacements(
 }
 
 /// The key of a row, or of what replaces it.
-fn key_then<'a>(
-    place: u16,
-    row: &'a Sequence<Cell>,
-    new: &'a Option<Sequence<Cell>>,
-) -> Seen<'a>
+fn key_then<'a>(place: u16, row: &'a Sequence<Cell>, new: &'a Option<Sequence<Cell>>) -> Seen<'a>
     ensures { seen result ≡ filters.cell_at (chosen row.now new.now) place }
 {
     match new {
@@ -190,10 +188,33 @@ fn replace(rows: &mut Vec<Sequence<Cell>>, changed: Vec<Option<Sequence<Cell>>>)
     requires { length changed.items ≡ length rows.old.items }
     ensures { rows.new.items ≡ chosen_rows rows.old.items changed.items }
 {
-    'changes: for (index, new) in changed.into_iter().enumerate() {
+    let mut left = changed;
+    'changes: while let Some(new) = left.pop() {
+        let index = left.len();
         if let Some(new) = new {
             rows[index] = new;
         }
+    }
+}
+
+/// The parts of an UPDATE, bound: the pairs before the condition.
+fn bind_update(
+    alloc: Global,
+    def: &TableDef,
+    sets: &[SetPair],
+    cond: &Option<Cond>,
+    given: &[Operand],
+) -> Result<(Vec<SetCell>, Option<Filter>), BindFault>
+    requires few { length def.now.columns ≤ 256 }
+    requires shaped { all_shaped cond.now ≡ true }
+    ensures { IsBound (update_fault given.now def.now sets.now cond.now) result (λ bound. BindsUpdate given.now def.now sets.now cond.now bound.0.items bound.1) }
+{
+    match bind_sets(alloc, def.columns.as_slice(), sets, given) {
+        Err(fault) => Err(fault),
+        Ok(sets) => match bind_where(alloc, def.columns.as_slice(), cond, given) {
+            Err(fault) => Err(fault),
+            Ok(filter) => Ok((sets, filter)),
+        },
     }
 }
 
@@ -211,8 +232,7 @@ pub fn update(
     requires shaped { all_shaped cond.now ≡ true }
     ensures { IsDone (update_fault given.now def.now sets.now cond.now) (performed (stored given.now) 0 def.now (statement.Update def.now.name sets.now cond.now) rows.old.items) rows.old.items result rows.new.items }
 {
-    let sets = bind_sets(alloc, def.columns.as_slice(), sets, given)?;
-    let filter = bind_where(alloc, def.columns.as_slice(), cond, given)?;
+    let (sets, filter) = bind_update(alloc, def, sets, cond, given)?;
     let changed = replacements(alloc, rows, &filter, &sets)?;
     match broken_then(alloc, def, rows, &changed, &sets)? {
         Some(fault) => Ok(Outcome::Fault(fault)),
@@ -222,6 +242,13 @@ pub fn update(
             Ok(Outcome::Count(count))
         }
     }
+}
+
+/// Removes the rows that a condition keeps.
+fn remove(rows: &mut Vec<Sequence<Cell>>, condition: &Option<Filter>)
+    ensures { rows.new.items ≡ filter (λ row. not (filters.passes condition.now row)) rows.old.items }
+{
+    rows.retain(|row| !passes(condition, row.as_slice()));
 }
 
 /// Executes a DELETE.
@@ -238,6 +265,6 @@ pub fn delete(
 {
     let filter = bind_where(alloc, def.columns.as_slice(), cond, given)?;
     let count = count_kept(rows, &filter);
-    rows.retain(|row| !passes(&filter, row.as_slice()));
+    remove(rows, &filter);
     Ok(Outcome::Count(count))
 }

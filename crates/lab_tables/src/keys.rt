@@ -5,7 +5,7 @@ ghost use Rattle.std.specs.List.{list_any};
 ghost use Rattle.table_rows.specs.Faults as spec;
 ghost use Rattle.table_rows.specs.Filters.{cell_at};
 ghost use Rattle.table_rows.specs.Stored.{compare, seen};
-ghost use Rattle.lab_tables.specs.Keys.{broken_stored};
+ghost use Rattle.lab_tables.specs.Keys.{broken_by, broken_stored};
 
 use acra_base::Sequence;
 use table_rows::{BrokenKey, Cell, Seen, are_equal, cell_at, is_null};
@@ -53,11 +53,7 @@ fn broken_by(
 }
 
 /// The first of some keys that can't stand behind these rows and the keys before it.
-pub fn first_broken(
-    place: u16,
-    rows: &[Sequence<Cell>],
-    keys: &[Seen<'_>],
-) -> Option<BrokenKey>
+pub fn first_broken(place: u16, rows: &[Sequence<Cell>], keys: &[Seen<'_>]) -> Option<BrokenKey>
     ensures { result ≡ broken_stored (map (λ row. cell_at row place) rows.now) (map seen keys.now) }
 {
     'keys: for (index, key) in keys.iter().enumerate() {

@@ -1,6 +1,6 @@
 //! SELECT.
 
-ghost use Rattle.std.specs.Prelude.{◌≡◌, ◌≤◌, ◌∷◌, [], IfOk, length, map, true, pos};
+ghost use Rattle.std.specs.Prelude.{◌≡◌, ◌≤◌, ◌<◌, ◌^◌, ◌∷◌, [], IfOk, length, map, true, pos};
 ghost use Rattle.sql_tree.specs.WellFormed.{all_shaped};
 ghost use Rattle.table_checks.specs.Binding.{IsBound};
 ghost use Rattle.table_rows.specs.Faults.{first_unread, where_places};
@@ -13,7 +13,9 @@ ghost use Rattle.lab_tables.specs.Finding.{found_by, given_cells, kept_by, selec
 use acra_base::{Bytes, NoMemory, Sequence};
 use sql_tree::{Cond, Items, Operand, OrderKey};
 use std::alloc::Global;
-use table_checks::{BindFault, bind_items, bind_keys, bind_where, out_columns, out_row, spelled_row};
+use table_checks::{
+    BindFault, bind_items, bind_keys, bind_where, out_columns, out_row, spelled_row,
+};
 use table_rows::{Cell, ColumnDef, Filter, OutColumn, Outcome, SortKey, passes, sort_rows};
 
 /// The rows behind OFFSET, as many as LIMIT lets through.
@@ -67,7 +69,8 @@ fn kept<'a>(
 
 /// How many rows a condition keeps.
 pub fn count_kept(rows: &[Sequence<Cell>], filter: &Option<Filter>) -> u64
-    ensures { result ≡ length (kept_by filter.now rows.now) }
+    ensures value { result ≡ length (kept_by filter.now rows.now) }
+    ensures small { result < 2 ^ 63 }
 {
     let mut count: u64 = 0;
     'rows: for row in rows {
@@ -87,10 +90,11 @@ fn found<'a>(
 ) -> Result<Vec<&'a Sequence<Cell>>, NoMemory>
     ensures { IfOk result (λ found. map (λ r. r.now) found.items ≡ found_by filter.now keys.now rows.now) }
 {
-    let mut found = kept(alloc, rows, filter)?;
-    if !keys.is_empty() {
-        sort_rows(&mut found, keys)?;
+    if keys.is_empty() {
+        return kept(alloc, rows, filter);
     }
+    let mut found = kept(alloc, rows, filter)?;
+    sort_rows(&mut found, keys)?;
     Ok(found)
 }
 
@@ -125,6 +129,7 @@ fn item_rows(
 
 /// The one row of a count.
 fn count_row(alloc: Global, count: u64) -> Result<Vec<Sequence<Cell>>, NoMemory>
+    requires { count < 2 ^ 63 }
     ensures { IfOk result (λ rows. rows.items ≡ (cells.Int (pos count) ∷ []) ∷ []) }
 {
     let mut row = Sequence::new(alloc);

@@ -1,6 +1,7 @@
-ghost use Rattle.std.specs.Prelude.{◌≡◌, ◌≤◌, ◌<◌, ◌∷◌, [], IfOk, OnErr, OnOk, length, map, true, Option};
+ghost use Rattle.std.specs.Prelude.{◌≡◌, ◌≤◌, ◌<◌, ◌+◌, ◌∷◌, [], List, max, IfOk, OnErr, OnOk, length, map, true, Option};
 ghost use Rattle.sql_tree.specs.WellFormed.{is_grammatical};
 ghost use Rattle.table_rows.specs.Columns.{place};
+ghost use Rattle.table_rows.specs.declared.table.TableDef.{TableDef};
 ghost use Rattle.table_rows.specs.Faults.{fault, first_unread, places_in};
 ghost use Rattle.table_rows.specs.Stored.{stored};
 ghost use Rattle.table_rows.specs.Tables as spec;
@@ -131,6 +132,36 @@ fn told(done: Result<Outcome, BindFault>) -> Result<Outcome, NoMemory>
     }
 }
 
+/// Where the definition of this name stands; how many there are, where there is none.
+fn place_of(defs: &[TableDef], name: &Name) -> usize
+    ensures value { result ≡ place (is_def name.now) defs.now }
+    ensures within { result ≤ length defs.now }
+{
+    'tables: for (index, def) in defs.iter().enumerate() {
+        if def.name.as_slice() == name.as_slice() {
+            return index;
+        }
+    }
+    defs.len()
+}
+
+/// Makes room for the rows of a table, where it has none yet. Without memory there may be more room.
+fn make_rows(
+    alloc: Global,
+    rows: &mut Vec<Vec<Sequence<Cell>>>,
+    place: usize,
+) -> Result<(), NoMemory>
+    requires { place < 256 }
+    ensures same { (defs : List TableDef) → joined defs (map (λ v. v.items) rows.new.items) ≡ joined defs (map (λ v. v.items) rows.old.items) }
+    ensures most { length rows.new.items ≤ max (length rows.old.items) (place + 1) }
+    ensures ok { OnOk result (place < length rows.new.items) }
+{
+    'tables: while rows.len() <= place {
+        rows.push(Vec::new(alloc))?;
+    }
+    Ok(())
+}
+
 impl Tables {
     /// Tables of these definitions, without rows. It takes no memory.
     pub fn new(alloc: Global, defs: Vec<TableDef>) -> Tables
@@ -144,27 +175,6 @@ impl Tables {
         }
     }
 
-    /// Where the table of this name stands; how many tables there are, where there is none.
-    fn place(&self, name: &Name) -> usize
-        ensures { result ≡ place (is_def name.now) self.now.defs.items }
-    {
-        'tables: for (index, def) in self.defs.iter().enumerate() {
-            if def.name.as_slice() == name.as_slice() {
-                return index;
-            }
-        }
-        self.defs.len()
-    }
-
-    /// Makes the rows of a table, where it has none yet.
-    fn make_rows(&mut self, place: usize) -> Result<(), NoMemory>
-    {
-        'tables: while self.rows.len() <= place {
-            self.rows.push(Vec::new(self.alloc))?;
-        }
-        Ok(())
-    }
-
     /// Executes a statement, whose parameters have these values: each a string, a number or NULL. Without
     /// memory the tables stay.
     pub fn exec(&mut self, statement: &Statement, values: &[Operand]) -> Result<Outcome, NoMemory>
@@ -175,11 +185,11 @@ impl Tables {
         let Some(name) = table_of(statement) else {
             return Ok(Outcome::Count(0));
         };
-        let place = self.place(name);
+        let place = place_of(&self.defs, name);
         if place >= self.defs.len() {
             return Ok(Outcome::Fault(no_table(self.alloc, name)?));
         }
-        self.make_rows(place)?;
+        make_rows(self.alloc, &mut self.rows, place)?;
         told(run(
             self.alloc,
             place as u16,

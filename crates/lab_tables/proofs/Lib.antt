@@ -6,3 +6,4 @@ pub mod Windows
 pub mod Selected
 pub mod Keyed
 pub mod Updated
+pub mod Executed

@@ -36,17 +36,28 @@ unread_append : (given : List Operand) (xs ys : List Place) → first_unread (st
 unread_append given [] ys = refl
 unread_append given (x ∷ xs) ys = ap (or_else (place_fault (stored given) x)) (unread_append given xs ys) ∙ sym (or_assoc (place_fault (stored given) x) (first_unread (stored given) xs) (first_unread (stored given) ys))
 
--- the first of two bindings fails
-pub first_fails : {X Y : Type 0} (given : List Operand) (xs ys : List Place) (P : X → Type 0) (Q : Y → Type 0) (fault : BindFault)
-    → IsBound (first_unread (stored given) xs) (Err fault) P → IsBound (first_unread (stored given) (xs ++ ys)) (Err fault) Q
-first_fails given xs ys P Q (bind.Fault f) h = unread_append given xs ys ∙ ap (λ w. or_else w (first_unread (stored given) ys)) h
-first_fails given xs ys P Q bind.NoMemory h = tt
+-- a binding that fails
+abbrev pub Fails : Option LabFault → BindFault → Type 0
+Fails fault (bind.Fault f) = fault ≡ Some f
+Fails fault bind.NoMemory = Unit {0}
 
--- the first succeeds, and the second fails
-pub second_fails : {Y Z : Type 0} (given : List Operand) (xs ys : List Place) (P : Y → Type 0) (Q : Z → Type 0) (fault : BindFault)
-    → first_unread (stored given) xs ≡ None → IsBound (first_unread (stored given) ys) (Err fault) P → IsBound (first_unread (stored given) (xs ++ ys)) (Err fault) Q
-second_fails given xs ys P Q (bind.Fault f) none h = unread_append given xs ys ∙ (ap (λ w. or_else w (first_unread (stored given) ys)) none ∙ h)
-second_fails given xs ys P Q bind.NoMemory none h = tt
+pub fails_of : {X : Type 0} (fault : Option LabFault) (r : Result X BindFault) (P : X → Type 0) (e : BindFault) → IsBound fault r P → r ≡ Err e → Fails fault e
+fails_of fault (Ok x) P e h is = cc
+fails_of fault (Err (bind.Fault g)) P (bind.Fault f) h is = let same : g ≡ f = cc in h ∙ ap Some same
+fails_of fault (Err (bind.Fault g)) P bind.NoMemory h is = tt
+fails_of fault (Err bind.NoMemory) P (bind.Fault f) h is = cc
+fails_of fault (Err bind.NoMemory) P bind.NoMemory h is = tt
+
+-- the first of two bindings fails, or the second
+pub first_fails : {Y : Type 0} (given : List Operand) (xs ys : List Place) (Q : Y → Type 0) (fault : BindFault)
+    → Fails (first_unread (stored given) xs) fault → IsBound (first_unread (stored given) (xs ++ ys)) (Err fault) Q
+first_fails given xs ys Q (bind.Fault f) h = unread_append given xs ys ∙ ap (λ w. or_else w (first_unread (stored given) ys)) h
+first_fails given xs ys Q bind.NoMemory h = tt
+
+pub second_fails : {Z : Type 0} (given : List Operand) (xs ys : List Place) (Q : Z → Type 0) (fault : BindFault)
+    → first_unread (stored given) xs ≡ None → Fails (first_unread (stored given) ys) fault → IsBound (first_unread (stored given) (xs ++ ys)) (Err fault) Q
+second_fails given xs ys Q (bind.Fault f) none h = unread_append given xs ys ∙ (ap (λ w. or_else w (first_unread (stored given) ys)) none ∙ h)
+second_fails given xs ys Q bind.NoMemory none h = tt
 
 pub both_read : (given : List Operand) (xs ys : List Place) → first_unread (stored given) xs ≡ None → first_unread (stored given) ys ≡ None → first_unread (stored given) (xs ++ ys) ≡ None
 both_read given xs ys a b = unread_append given xs ys ∙ (ap (λ w. or_else w (first_unread (stored given) ys)) a ∙ b)

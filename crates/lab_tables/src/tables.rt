@@ -1,4 +1,4 @@
-ghost use Rattle.std.specs.Prelude.{◌≡◌, ◌≤◌, ◌<◌, ◌+◌, ◌∷◌, [], List, max, IfOk, OnErr, OnOk, length, map, true, Option};
+ghost use Rattle.std.specs.Prelude.{◌≡◌, ◌≤◌, ◌<◌, ◌+◌, ◌∷◌, [], List, max, IfOk, OnErr, OnOk, length, map, true, Option, Some};
 ghost use Rattle.sql_tree.specs.WellFormed.{is_grammatical};
 ghost use Rattle.table_rows.specs.Columns.{place};
 ghost use Rattle.table_rows.specs.declared.table.TableDef.{TableDef};
@@ -9,7 +9,7 @@ ghost use Rattle.table_rows.specs.Tables.{answered, executed, performed, table_n
 ghost use Rattle.std.specs.Option.{option_copied};
 ghost use Rattle.lab_tables.specs.Changing.{KeyHolds};
 ghost use Rattle.lab_tables.specs.Doing.{IsDone, Tells};
-ghost use Rattle.lab_tables.specs.Shelves.{AreTables, IsTable, empty_table, is_def, joined};
+ghost use Rattle.lab_tables.specs.Shelves.{AllHold, AreTables, IsTable, empty_table, is_def, joined};
 
 use crate::changes::{delete, insert, update};
 use crate::queries::{Query, select};
@@ -162,6 +162,41 @@ fn make_rows(
     Ok(())
 }
 
+/// Executes a statement on the table of this name.
+fn exec_on(
+    alloc: Global,
+    defs: &[TableDef],
+    rows: &mut Vec<Vec<Sequence<Cell>>>,
+    name: &Name,
+    statement: &Statement,
+    given: &[Operand],
+) -> Result<Outcome, NoMemory>
+    requires tables { AreTables defs.now }
+    requires hold { AllHold (joined defs.now (map (λ v. v.items) rows.old.items)) }
+    requires few { length rows.old.items ≤ length defs.now }
+    requires named { table_named statement.now ≡ Some name.now }
+    requires shaped { is_grammatical statement.now ≡ true }
+    ensures ok { IfOk result (λ outcome. (outcome ≡ spec.told (answered (stored given.now) statement.now (joined defs.now (map (λ v. v.items) rows.old.items))))
+        × (joined defs.now (map (λ v. v.items) rows.new.items) ≡ executed (stored given.now) statement.now (joined defs.now (map (λ v. v.items) rows.old.items)))) }
+    ensures err { OnErr result (joined defs.now (map (λ v. v.items) rows.new.items) ≡ joined defs.now (map (λ v. v.items) rows.old.items)) }
+    ensures hold { AllHold (joined defs.now (map (λ v. v.items) rows.new.items)) }
+    ensures few { length rows.new.items ≤ length defs.now }
+{
+    let place = place_of(defs, name);
+    if place >= defs.len() {
+        return Ok(Outcome::Fault(no_table(alloc, name)?));
+    }
+    make_rows(alloc, rows, place)?;
+    told(run(
+        alloc,
+        place as u16,
+        &defs[place],
+        &mut rows[place],
+        statement,
+        given,
+    ))
+}
+
 impl Tables {
     /// Tables of these definitions, without rows. It takes no memory.
     pub fn new(alloc: Global, defs: Vec<TableDef>) -> Tables
@@ -185,18 +220,13 @@ impl Tables {
         let Some(name) = table_of(statement) else {
             return Ok(Outcome::Count(0));
         };
-        let place = place_of(&self.defs, name);
-        if place >= self.defs.len() {
-            return Ok(Outcome::Fault(no_table(self.alloc, name)?));
-        }
-        make_rows(self.alloc, &mut self.rows, place)?;
-        told(run(
+        exec_on(
             self.alloc,
-            place as u16,
-            &self.defs[place],
-            &mut self.rows[place],
+            &self.defs,
+            &mut self.rows,
+            name,
             statement,
             values,
-        ))
+        )
     }
 }

@@ -24,3 +24,6 @@ pub use rows::bind_rows;
 pub use sets::{SetCell, bind_sets, set_row};
 pub use shape::check_shape;
 pub use shown::{out_row, spelled_row};
+
+#[cfg(test)]
+mod tests;

@@ -19,7 +19,7 @@ use Rattle.lab_tables.specs.Keys.{broken_stored}
 use Rattle.lab_tables.specs.Changing.{KeyHolds, keys_in, fault_at, behind_fault, new_fault}
 use Rattle.lab_tables.proofs.Broken.{broken_given, broken_append}
 
-none_inside : {A B : Type 0} (f : A → B) (o : Option A) → option_map f o ≡ None → o ≡ None
+pub none_inside : {A B : Type 0} (f : A → B) (o : Option A) → option_map f o ≡ None → o ≡ None
 none_inside f None e = refl
 none_inside f (Some a) e = cc
 

@@ -7,3 +7,6 @@ mod queries;
 mod tables;
 
 pub use tables::Tables;
+
+#[cfg(test)]
+mod tests;

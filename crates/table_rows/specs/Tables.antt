@@ -48,6 +48,22 @@ module _ (number : ℕ) (columns : List ColumnDef) where
   out_columns (items.Count label) = count_column label ∷ []
   out_columns (items.Columns all) = map (λ (i : Item). out_column i.label i.column) all
 
+-- ---- which table a statement is on
+
+abbrev pub table_named : Statement → Option (List ℕ)
+table_named (statement.Select table all cond order limit offset) = Some table
+table_named (statement.Insert table names new) = Some table
+table_named (statement.Update table sets cond) = Some table
+table_named (statement.Delete table cond) = Some table
+table_named (statement.Set name v) = None
+table_named statement.Empty = None
+
+abbrev pub is_table : {C : Type 0} → List ℕ → Table C → Bool
+is_table name t = same t.def.name name
+
+abbrev pub table_place : {C : Type 0} → List ℕ → List (Table C) → ℕ
+table_place name tables = place (is_table name) tables
+
 module _ {C : Type 0} (cells : Cells C) where
   -- a change holds where the key allows it
   abbrev pub unless : Option LabFault → ℕ → List (List C) → List (List C) → Step C
@@ -76,20 +92,6 @@ module _ {C : Type 0} (cells : Cells C) where
   step number t tree = step_unless (fault cells t.def.columns tree) number t.def tree t.rows
 
   -- ---- several tables
-
-  abbrev pub table_named : Statement → Option (List ℕ)
-  table_named (statement.Select table all cond order limit offset) = Some table
-  table_named (statement.Insert table names new) = Some table
-  table_named (statement.Update table sets cond) = Some table
-  table_named (statement.Delete table cond) = Some table
-  table_named (statement.Set name v) = None
-  table_named statement.Empty = None
-
-  abbrev pub is_table : List ℕ → Table C → Bool
-  is_table name t = same t.def.name name
-
-  abbrev pub table_place : List ℕ → List (Table C) → ℕ
-  table_place name tables = place (is_table name) tables
 
   abbrev pub answer_of : List ℕ → ℕ → Option (Table C) → Statement → Answer C
   answer_of name number None tree = Fault (no_table name)

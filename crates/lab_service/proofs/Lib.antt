@@ -1,0 +1,9 @@
+pub mod Texts
+pub mod Lengths
+pub mod Appended
+pub mod Written
+pub mod Rows
+pub mod Taking
+pub mod Known
+pub mod HasParameter
+pub mod Answered

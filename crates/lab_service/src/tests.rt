@@ -1,0 +1,208 @@
+ghost use Rattle.std.specs.Prelude.{◌≡◌, ◌<◌, true, length, IfOk};
+ghost use Rattle.acra_base.specs.Names.{is_name};
+ghost use Rattle.lab_tables.specs.Shelves.{IsTable};
+
+use super::*;
+use acra_base::{Bytes, Name, NoMemory, Sequence, ValueKind};
+use lab_tables::Tables;
+use std::alloc::Global;
+use std::test::Fail;
+use table_rows::{ColumnDef, TableDef};
+
+/// A startup of the user acra.
+const STARTUP: &[u8] = b"\x00\x00\x00\x13\x00\x03\x00\x00user\x00acra\x00\x00";
+
+/// Its reply in the session 5.
+const STARTED: &[u8] = b"R\x00\x00\x00\x08\x00\x00\x00\x00\
+    S\x00\x00\x00\x19client_encoding\x00UTF8\x00\
+    S\x00\x00\x00\x23standard_conforming_strings\x00on\x00\
+    K\x00\x00\x00\x0c\x00\x00\x00\x05\x00\x00\x00\x00\
+    Z\x00\x00\x00\x05I";
+
+/// A Query without a statement, and its reply.
+const EMPTY: &[u8] = b"Q\x00\x00\x00\x05\x00";
+
+const EMPTY_DONE: &[u8] = b"I\x00\x00\x00\x04Z\x00\x00\x00\x05I";
+
+/// A text that is no statement, cut in its middle, and its reply.
+const HALF: &[u8] = b"Q\x00\x00\x00\x0bDEL";
+
+const OTHER_HALF: &[u8] = b"ETE\x00";
+
+const REFUSED: &[u8] =
+    b"E\x00\x00\x00\x33SERROR\x00VERROR\x00C42601\x00Mlab: not in the profile\x00\x00\
+    Z\x00\x00\x00\x05I";
+
+/// A statement with a parameter, and its reply.
+const WITH_PARAMETER: &[u8] = b"Q\x00\x00\x00\x1fDELETE FROM t WHERE a = $1\x00";
+
+const WRONG_COUNT: &[u8] =
+    b"E\x00\x00\x00\x3aSERROR\x00VERROR\x00C08P01\x00Mlab: wrong count of parameters\x00\x00\
+    Z\x00\x00\x00\x05I";
+
+const TERMINATE: &[u8] = b"X\x00\x00\x00\x04";
+
+const SYNC: &[u8] = b"S\x00\x00\x00\x04";
+
+/// The replies to what a session's next bytes complete, up to 4 requests.
+fn replies(
+    alloc: Global,
+    lab: &mut LabBackend,
+    session: u16,
+    bytes: &[u8],
+) -> Result<Vec<u8>, NoMemory> {
+    let mut out = Vec::new(alloc);
+    lab.feed(session, bytes)?;
+    'requests: for _ in 0..4 {
+        if !lab.execute(session, &mut out)? {
+            return Ok(out);
+        }
+    }
+    Ok(out)
+}
+
+#[test]
+fn starts_a_session(rt: HostRuntime) -> Result<(), Fail> {
+    let alloc = rt.alloc();
+    let mut lab = LabBackend::new(alloc, Tables::new(alloc, Vec::new(alloc)));
+    let got = replies(alloc, &mut lab, 5, STARTUP)?;
+    assert_eq!(rt; got.as_slice(), STARTED);
+    let again = replies(alloc, &mut lab, 5, STARTUP)?;
+    assert_eq!(rt; again.len(), 0);
+    Ok(())
+}
+
+#[test]
+fn serves_two_sessions_whose_bytes_interleave(rt: HostRuntime) -> Result<(), Fail> {
+    let alloc = rt.alloc();
+    let mut lab = LabBackend::new(alloc, Tables::new(alloc, Vec::new(alloc)));
+    let _ = replies(alloc, &mut lab, 5, STARTUP)?;
+    let _ = replies(alloc, &mut lab, 3, STARTUP)?;
+    let nothing: &[u8] = b"";
+    let steps = [
+        (3, HALF, nothing),
+        (5, EMPTY, EMPTY_DONE),
+        (5, HALF, nothing),
+        (3, OTHER_HALF, REFUSED),
+        (5, OTHER_HALF, REFUSED),
+        (3, WITH_PARAMETER, WRONG_COUNT),
+        (3, TERMINATE, nothing),
+        (3, EMPTY, nothing),
+        (5, EMPTY, EMPTY_DONE),
+        (5, SYNC, nothing),
+        (5, EMPTY, nothing),
+    ];
+    'steps: for (session, bytes, want) in steps {
+        let got = replies(alloc, &mut lab, session, bytes)?;
+        assert_eq!(rt; got.as_slice(), want);
+    }
+    Ok(())
+}
+
+fn column(alloc: Global, name: &[u8], kind: ValueKind) -> Result<ColumnDef, Fail>
+    requires { is_name name.now ≡ true }
+    ensures { IfOk result (λ c. c ≡ record { name = name.now; kind = kind }) }
+{
+    let bytes = Bytes::copied(alloc, name)?;
+    Ok(ColumnDef {
+        name: Name::new(bytes),
+        kind,
+    })
+}
+
+/// The table t with the columns a, int8, and b, text.
+fn table(alloc: Global) -> Result<TableDef, Fail>
+    ensures { IfOk result IsTable }
+{
+    let mut columns = Sequence::new(alloc);
+    columns.push(column(alloc, b"a", ValueKind::Int64)?)?;
+    columns.push(column(alloc, b"b", ValueKind::Str)?)?;
+    let bytes = Bytes::copied(alloc, b"t")?;
+    Ok(TableDef {
+        name: Name::new(bytes),
+        columns,
+        key: None,
+    })
+}
+
+fn one_table(alloc: Global) -> Result<Tables, Fail> {
+    let mut defs = Vec::new(alloc);
+    defs.push(table(alloc)?)?;
+    Ok(Tables::new(alloc, defs))
+}
+
+/// The reply to a text.
+fn reply(alloc: Global, lab: &mut LabBackend, text: &[u8]) -> Result<Vec<u8>, NoMemory>
+    requires { length text.now < 1000 }
+{
+    let mut message = Vec::new(alloc);
+    message.push(b'Q')?;
+    let length = text.len() as u32 + 5;
+    message.extend_from_slice(&length.to_be_bytes())?;
+    message.extend_from_slice(text)?;
+    message.push(0)?;
+    replies(alloc, lab, 1, &message)
+}
+
+// Written out by hand after the message formats of PostgreSQL's manual.
+const COLUMN_A: &[u8] =
+    b"T\x00\x00\x00\x1a\x00\x01a\x00\x00\x00\x40\x00\x00\x01\x00\x00\x00\x14\x00\x08\xff\xff\xff\xff\x00\x00";
+
+const COLUMN_N: &[u8] =
+    b"T\x00\x00\x00\x1a\x00\x01n\x00\x00\x00\x00\x00\x00\x00\x00\x00\x00\x14\x00\x08\xff\xff\xff\xff\x00\x00";
+
+const OUT_OF_RANGE: &[u8] =
+    b"E\x00\x00\x00\x42SERROR\x00VERROR\x00C22003\x00Mlab: value out of range for column \"a\"\x00\x00";
+
+#[test]
+fn executes_the_statements_of_the_profile(rt: HostRuntime) -> Result<(), Fail> {
+    let alloc = rt.alloc();
+    let mut lab = LabBackend::new(alloc, one_table(alloc)?);
+    let _ = replies(alloc, &mut lab, 1, STARTUP)?;
+    let steps: [(&[u8], &[u8], &[u8]); 8] = [
+        (
+            b"INSERT INTO t VALUES (1, 'x'), (2, NULL), (3, 'y')",
+            b"",
+            b"C\x00\x00\x00\x0fINSERT 0 3\x00",
+        ),
+        (
+            b"SELECT a FROM t WHERE NOT (b = 'x')",
+            COLUMN_A,
+            b"D\x00\x00\x00\x0b\x00\x01\x00\x00\x00\x013C\x00\x00\x00\x0dSELECT 1\x00",
+        ),
+        (
+            b"SELECT a FROM t ORDER BY b, a DESC",
+            COLUMN_A,
+            b"D\x00\x00\x00\x0b\x00\x01\x00\x00\x00\x011D\x00\x00\x00\x0b\x00\x01\x00\x00\x00\x013D\x00\x00\x00\x0b\x00\x01\x00\x00\x00\x012C\x00\x00\x00\x0dSELECT 3\x00",
+        ),
+        (
+            b"SELECT COUNT(*) AS n FROM t LIMIT 0",
+            COLUMN_N,
+            b"C\x00\x00\x00\x0dSELECT 0\x00",
+        ),
+        (b"UPDATE t SET a = 9223372036854775808", OUT_OF_RANGE, b""),
+        (
+            b"DELETE FROM t WHERE b IN ('x', NULL)",
+            b"",
+            b"C\x00\x00\x00\x0dDELETE 1\x00",
+        ),
+        (
+            b"UPDATE t SET b = 'z' WHERE a > 2",
+            b"",
+            b"C\x00\x00\x00\x0dUPDATE 1\x00",
+        ),
+        (
+            b"SELECT a FROM t WHERE b = 'z'",
+            COLUMN_A,
+            b"D\x00\x00\x00\x0b\x00\x01\x00\x00\x00\x013C\x00\x00\x00\x0dSELECT 1\x00",
+        ),
+    ];
+    'steps: for (text, first, rest) in steps {
+        let got = reply(alloc, &mut lab, text)?;
+        let mut want = Vec::from_slice(alloc, first)?;
+        want.extend_from_slice(rest)?;
+        want.extend_from_slice(b"Z\x00\x00\x00\x05I")?;
+        assert_eq!(rt; got.as_slice(), want.as_slice());
+    }
+    Ok(())
+}

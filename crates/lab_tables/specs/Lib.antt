@@ -1,0 +1,6 @@
+pub mod Keys
+pub mod Finding
+pub mod Changing
+pub mod Updating
+pub mod Shelves
+pub mod Doing

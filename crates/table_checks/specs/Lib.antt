@@ -1,0 +1,5 @@
+pub mod Naming
+pub mod Binding
+pub mod Bound
+pub mod Sets
+pub mod Keys

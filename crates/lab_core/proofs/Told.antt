@@ -10,7 +10,8 @@ use Rattle.pg_wire.specs.declared.frame.FrameFault.{FrameFault}
 use Rattle.pg_wire.specs.declared.frame.Side.TheVariants as side
 use Rattle.pg_wire.specs.Frames.{HasFault}
 use Rattle.pg_wire.specs.Fronts.{front_kind, front_body}
-use Rattle.table_machine.specs.declared.cell.Cell.{Cell}
+use Rattle.table_rows.specs.declared.cell.Cell.{Cell}
+use Rattle.table_rows.specs.Tables.{Table}
 use Rattle.plain_tables.specs.Requests.{Request, Phase, phase_after_all, is_opening, IsSaid, AreSaid, message_of, request_bytes, stream_of, NoRequest, Splits, message_limit}
 use Rattle.plain_tables.specs.BadMessages.{IsBad, IsCut}
 use Rattle.plain_tables.proofs.Requested.{said_frame}
@@ -74,7 +75,7 @@ record Whole (keys : Key) (g0 : ChaCha) (client unread before after : List ℕ) 
   pub whole : client ≡ stream_of answered (rest ++ unread)
   pub sent : after ≡ before ++ answers keys (started g0) answered
 
-module _ (keys : Key) (g0 : ChaCha) (client unread before after : List ℕ) (tables : List (List Cell)) where
+module _ (keys : Key) (g0 : ChaCha) (client unread before after : List ℕ) (tables : List (Table Cell)) where
   whole : (status : Status) (answered begun : List Request) (rest : List ℕ) → may_begin status ≡ false → Ran keys g0 (Some client) (Some unread) (Some before) (Some after) tables status answered begun rest
       → Whole keys g0 client unread before after answered rest
   whole status answered begun rest may r =
@@ -98,7 +99,7 @@ one_at_most status (r ∷ q ∷ qs) m = absurd m
 abbrev keys_of : List ℕ → ℕ → Key
 keys_of name seed = (client_drawn name seed).0
 
-module _ (name : List ℕ) (seed : ℕ) (client unread before after : List ℕ) (tables : List (List Cell)) where
+module _ (name : List ℕ) (seed : ℕ) (client unread before after : List ℕ) (tables : List (Table Cell)) where
   abbrev Run : Status → List Request → List Request → List ℕ → Type 0
   Run status answered begun rest = Ran (keys_of name seed) (client_drawn name seed).1 (Some client) (Some unread) (Some before) (Some after) tables status answered begun rest
 
@@ -226,7 +227,7 @@ module _ (name : List ℕ) (seed : ℕ) (client unread before after : List ℕ) 
 
 -- ---- where it is told
 
-pub headline_of : (name : List ℕ) (seed : ℕ) (left0 left held0 held : Option (List ℕ)) (tables : List (List Cell)) (status : Status) (answered begun : List Request) (rest : List ℕ)
+pub headline_of : (name : List ℕ) (seed : ℕ) (left0 left held0 held : Option (List ℕ)) (tables : List (Table Cell)) (status : Status) (answered begun : List Request) (rest : List ℕ)
     → Ran (keys_of name seed) (client_drawn name seed).1 left0 left held0 held tables status answered begun rest → WhereTold left0 left held0 held (Headline name seed status)
 headline_of name seed (Some client) (Some unread) (Some before) (Some after) tables status answered begun rest r = told name seed client unread before after tables status answered begun rest r
 headline_of name seed None left held0 held tables status answered begun rest r = tt
@@ -234,7 +235,7 @@ headline_of name seed (Some client) None held0 held tables status answered begun
 headline_of name seed (Some client) (Some unread) None held tables status answered begun rest r = tt
 headline_of name seed (Some client) (Some unread) (Some before) None tables status answered begun rest r = tt
 
-pub due_of : (name : List ℕ) (seed : ℕ) (left0 left held0 held : Option (List ℕ)) (tables : List (List Cell)) (status : Status) (answered begun : List Request) (rest : List ℕ)
+pub due_of : (name : List ℕ) (seed : ℕ) (left0 left held0 held : Option (List ℕ)) (tables : List (Table Cell)) (status : Status) (answered begun : List Request) (rest : List ℕ)
     → Ran (keys_of name seed) (client_drawn name seed).1 left0 left held0 held tables status answered begun rest → WhereTold left0 left held0 held (IsDue name seed status)
 due_of name seed (Some client) (Some unread) (Some before) (Some after) tables status answered begun rest r = is_due name seed client unread before after status (told name seed client unread before after tables status answered begun rest r)
 due_of name seed None left held0 held tables status answered begun rest r = tt
@@ -276,7 +277,7 @@ one_session words a b m n s t =
     )
 
 -- a session that ran under the words ran for any client and seed that they name
-pub named : (words : List (List ℕ)) (name : List ℕ) (seed : ℕ) (found : List ℕ) (key : Key) (of : ℕ) (g0 : ChaCha) (left0 left held0 held : Option (List ℕ)) (tables : List (List Cell)) (status : Status) (answered begun : List Request) (rest : List ℕ)
+pub named : (words : List (List ℕ)) (name : List ℕ) (seed : ℕ) (found : List ℕ) (key : Key) (of : ℕ) (g0 : ChaCha) (left0 left held0 held : Option (List ℕ)) (tables : List (Table Cell)) (status : Status) (answered begun : List Request) (rest : List ℕ)
     → IsSession words found of → IsSession words name seed → (key, g0) ≡ client_drawn found of → Ran key g0 left0 left held0 held tables status answered begun rest
     → Ran (keys_of name seed) (client_drawn name seed).1 left0 left held0 held tables status answered begun rest
 named words name seed found key of g0 left0 left held0 held tables status answered begun rest a b drawn r =

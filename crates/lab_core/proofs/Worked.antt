@@ -5,8 +5,8 @@ use Rattle.std.proofs.lemmas.Fmt.{decimal_digit}
 use Rattle.rand_chacha.specs.ChaCha.{ChaCha}
 use Rattle.pg_wire.specs.declared.back.Field.{Field}
 use Rattle.pg_wire.specs.declared.back.Back.TheVariants as backs
-use Rattle.table_machine.specs.Replies.{startup_messages, ready}
-use Rattle.table_machine.proofs.Texts.{IsText-from_test}
+use Rattle.lab_service.specs.Replies.{startup_messages, ready}
+use Rattle.lab_service.proofs.Texts.{IsText-from_test}
 use Rattle.plain_tables.specs.Requests.{Request, Phase, IsSaid, IsQuery, AreSaid, NoRequest, Splits}
 use Rattle.plain_tables.specs.declared.meaning.Meaning.TheVariants as meaning
 use Rattle.plain_tables.specs.Reply.{reply_bytes}

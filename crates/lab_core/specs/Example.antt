@@ -2,11 +2,11 @@
 -- as they are: its type, its length, and its content.
 use Rattle.std.specs.Prelude.{ℕ, ◌≡◌, pos, List, [], ◌∷◌, ◌++◌, codes, Some, None}
 use Rattle.pg_wire.specs.declared.front.Pair.{Pair}
-use Rattle.sql_profile.specs.declared.statement.Operand.TheVariants as operand
-use Rattle.sql_profile.specs.declared.statement.Item.{Item}
-use Rattle.sql_profile.specs.declared.statement.Items.TheVariants as select
-use Rattle.sql_profile.specs.declared.statement.Statement.{Statement}
-use Rattle.sql_profile.specs.declared.statement.Statement.TheVariants as statement
+use Rattle.sql_tree.specs.declared.condition.Operand.TheVariants as operand
+use Rattle.sql_tree.specs.declared.statement.Item.{Item}
+use Rattle.sql_tree.specs.declared.statement.Items.TheVariants as select
+use Rattle.sql_tree.specs.declared.statement.Statement.{Statement}
+use Rattle.sql_tree.specs.declared.statement.Statement.TheVariants as statement
 use Rattle.plain_tables.specs.Requests.{Request, Splits}
 use Rattle.lab_core.specs.Headline.{IsOver, replies_to}
 
@@ -28,7 +28,7 @@ abbrev pub body_item : Item
 body_item = record { column = codes "body"; label = None }
 
 abbrev pub select_tree : Statement
-select_tree = statement.Select (codes "notes") (select.Columns (body_item ∷ []))
+select_tree = statement.Select (codes "notes") (select.Columns (body_item ∷ [])) None [] None None
 
 abbrev pub example_requests : List Request
 example_requests = Request.Opens (user_app ∷ []) ∷ Request.Asks insert_text insert_tree ∷ Request.Asks select_text select_tree ∷ Request.Leaves ∷ []

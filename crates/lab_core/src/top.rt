@@ -5,9 +5,9 @@ ghost use Rattle.lab_core.specs.Headline.{WhereTold, Headline, IsDue, Untouched}
 
 use crate::words::session_words;
 use acra_base::{Sink, Source};
-use lab_session::{Status, client_ring, first_session};
+use lab_service::LabBackend;
+use lab_session::{Status, client_ring, first_session, notes_tables};
 use std::alloc::Global;
-use table_machine::{LabBackend, Tables};
 
 /// All that the lab does under its words, `session CLIENT SEED`: one session of the client over a backend
 /// whose tables are empty, with keys and nonces drawn from a generator of the seed.
@@ -30,18 +30,21 @@ pub fn lab_top<S: Source, K: Sink>(
         None => Status::Usage,
         Some((client, seed)) => match client_ring(alloc, &client, seed) {
             Err(_) => Status::NoMemory,
-            Ok((mut ring, mut random)) => {
-                let mut backend = LabBackend::new(alloc, Tables::new(alloc), 1);
-                first_session(
-                    alloc,
-                    input,
-                    output,
-                    &mut random,
-                    &client,
-                    &mut ring,
-                    &mut backend,
-                )
-            }
+            Ok((mut ring, mut random)) => match notes_tables(alloc) {
+                Err(_) => Status::NoMemory,
+                Ok(tables) => {
+                    let mut backend = LabBackend::new(alloc, tables);
+                    first_session(
+                        alloc,
+                        input,
+                        output,
+                        &mut random,
+                        &client,
+                        &mut ring,
+                        &mut backend,
+                    )
+                }
+            },
         },
     }
 }

@@ -16,3 +16,4 @@ mod tests;
 
 pub use backend::LabBackend;
 pub use laws::{one_oldest, one_reply};
+pub use replies::{write_error, write_ready};

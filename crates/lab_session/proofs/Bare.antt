@@ -1,6 +1,5 @@
 -- A statement that needs no keys: it is sent as it is, and its reply is shown as it is.
 use Rattle.std.proofs.Common.{◌≡◌, ℕ, ◌+◌, ◌≤◌, ◌^◌, ◌||◌, Bool, true, false, if◌then◌else◌, List, [], ◌∷◌, length, map, Option, Some, None, Result, refl, sym, ap, subst, ◌∙◌, arith, inl, inr}
-use Rattle.std.specs.Prelude.{is_some}
 use Rattle.std.specs.List.{AllByRecursion, list_any}
 use Rattle.std.proofs.lemmas.List.{length-append}
 use Rattle.rand_chacha.specs.ChaCha.{ChaCha}
@@ -11,26 +10,23 @@ use Rattle.pg_wire.specs.declared.front.Front.{Front}
 use Rattle.pg_wire.specs.declared.front.Front.TheVariants as fronts
 use Rattle.pg_wire.specs.declared.back.Back.{Back}
 use Rattle.pg_wire.specs.declared.back.Back.TheVariants as backs
-use Rattle.sql_profile.specs.declared.statement.Items.TheVariants as select
-use Rattle.sql_profile.specs.declared.statement.Item.{Item}
-use Rattle.sql_profile.specs.declared.statement.Operand.{Operand}
-use Rattle.sql_profile.specs.declared.statement.Statement.{Statement}
-use Rattle.sql_profile.specs.declared.statement.Statement.TheVariants as statement
-use Rattle.sql_profile.specs.Tree.{IsStatement}
-use Rattle.sql_profile.specs.Canonical.{canon}
-use Rattle.table_machine.specs.Backend.{Lab}
+use Rattle.sql_tree.specs.declared.statement.Item.{Item}
+use Rattle.sql_tree.specs.declared.statement.Statement.{Statement}
+use Rattle.sql_tree.specs.Canonical.{canon}
+use Rattle.lab_service.specs.Backend.{Lab}
+use Rattle.plain_tables.specs.Served.{is_served, IsServed}
 use Rattle.plain_tables.specs.Meanings.{has_short_strings}
 use Rattle.plain_tables.specs.Requests.{Request}
-use Rattle.plain_tables.specs.Rewritten.{rewritten, is_protected, protected_of}
+use Rattle.plain_tables.specs.Rewritten.{written, rewritten, is_protected, protected_of}
+use Rattle.plain_tables.proofs.Parts.{Served, Fits, items_of, tree_of, by_parts}
 use Rattle.plain_tables.specs.Shown.{as_text, where_protected, shown_cell, shown_message}
 use Rattle.lab_session.specs.Cells.{HasKey, opened_by}
-use Rattle.lab_session.specs.Runs.{State, written_values, written, cell_for, drawn_for}
+use Rattle.lab_session.specs.Runs.{State, cell_for, drawn_for}
 use Rattle.lab_session.specs.Leases.{needs_lease}
-use Rattle.lab_session.specs.Session.{Rests}
+use Rattle.lab_session.specs.Session.{awaits_startup, Rests}
 use Rattle.lab_session.specs.Relaying.{CanSend, ForwardGives}
 use Rattle.lab_session.specs.Answering.{AnswerGives}
-use Rattle.lab_session.proofs.Sending.{sent_length}
-use Rattle.lab_session.proofs.Positive.{sent_is_text}
+use Rattle.lab_session.proofs.Sending.{sent_is_text, sent_length}
 use Rattle.lab_session.proofs.AnswerLaws.{statement_answered}
 
 abbrev pub AreFalse : List Bool → Type 0
@@ -53,27 +49,30 @@ none_protected : (items : List Item) → list_any is_protected items ≡ false �
 none_protected [] e = tt
 none_protected (i ∷ is) e = (first_false (is_protected i) (list_any is_protected is) e, none_protected is (second_false (is_protected i) (list_any is_protected is) e))
 
-pub is_bare : (tree : Statement) → IsStatement tree → needs_lease tree ≡ false → IsBare tree
-is_bare (statement.Select table (select.Columns items)) is e = record { as_is = λ cell. refl; writes_none = refl; shows_none = none_protected items e }
-is_bare (statement.Insert table columns []) is e = absurd is.2
-is_bare (statement.Insert table columns (row ∷ [])) is e =
-    let writes : (is_some (written_values row) || false) ≡ true = ap (λ (values : List Operand). is_some (written_values values) || false) is.2.shape in
-    absurd cc
-is_bare (statement.Insert table columns (row ∷ more ∷ rows)) is e = absurd is.2
+abbrev BareWhere : Statement → Type 0
+BareWhere tree = needs_lease tree ≡ false → IsBare tree
+
+-- an INSERT writes its string
+parts_bare : (v : Served) → Fits v → BareWhere (tree_of v)
+parts_bare (Served.Selects chosen) fits e = record { as_is = λ cell. refl; writes_none = refl; shows_none = none_protected (items_of chosen) e }
+parts_bare (Served.Inserts listed n text) fits e = absurd cc
+
+pub is_bare : (tree : Statement) → is_served tree ≡ true → needs_lease tree ≡ false → IsBare tree
+is_bare = by_parts BareWhere parts_bare
 
 -- ---- how it is sent
 
 no_bytes : IsBytes []
 no_bytes i = omega arith
 
-pub can_send_bare : (tree : Statement) (opening : Bool) → opening ≡ false → IsStatement tree → IsBare tree → CanSend opening (fronts.Query (canon tree))
+pub can_send_bare : (tree : Statement) (opening : Bool) → opening ≡ false → is_served tree ≡ true → IsBare tree → CanSend opening (fronts.Query (canon tree))
 can_send_bare tree opening e is bare =
     let short = sent_length [] tree is in
     subst (λ (t : Statement). CanSend opening (fronts.Query (canon t))) (bare.as_is [])
     (
     let long = length-append (canon (rewritten [] tree)) (0 ∷ []) in
     subst (λ (b : Bool). CanSend b (fronts.Query (canon (rewritten [] tree)))) (sym e)
-    (record { placed = tt; spelled = sent_is_text [] tree no_bytes is; framed = (refl, omega (arith, short, long), omega (arith, short, long)) })
+    (record { placed = tt; spelled = sent_is_text [] no_bytes tree is; framed = (refl, omega (arith, short, long), omega (arith, short, long)) })
     )
 
 -- ---- how its reply is shown
@@ -89,10 +88,10 @@ shown_as_is opened other ps h (backs.Cells cells) = ap backs.Cells (sym (none_sh
 shown_as_is opened other ps h m = refl
 
 pub bare_answered : {T E : Type 0} (keys : Key) (view : KeyView) (opened : List ℕ → Option (List ℕ)) (s : State) (lab : Lab) (text : List ℕ) (tree : Statement) (request : Front) (result : Result T E) (lab' : Lab) (old new : Option (List ℕ))
-    → needs_lease tree ≡ false → HasKey view keys → (lab.stream.opening ≡ false) × IsStatement tree × (has_short_strings tree ≡ true) → Rests keys lab s lab.stream.opening → request ≡ fronts.Query (canon tree)
-    → ForwardGives (shown_message opened []) lab request result lab' old new → AnswerGives keys lab.stream.opening s (Request.Asks text tree) result s.coming lab' old new
+    → needs_lease tree ≡ false → HasKey view keys → (awaits_startup lab ≡ false) × IsServed tree × (has_short_strings tree ≡ true) → Rests keys lab s (awaits_startup lab) → request ≡ fronts.Query (canon tree)
+    → ForwardGives (shown_message opened []) lab request result lab' old new → AnswerGives keys (awaits_startup lab) s (Request.Asks text tree) result s.coming lab' old new
 bare_answered {T} {E} keys view opened s lab text tree request result lab' old new none has can rests er f =
-    let bare = is_bare tree can.1 none in
+    let bare = is_bare tree can.1.served none in
     let rests' = subst (λ (b : Bool). Rests keys lab s b) can.0 rests in
     let bytes : IsBytes (cell_for keys s.coming (written tree)) = subst (λ (o : Option (List ℕ)). IsBytes (cell_for keys s.coming o)) (sym bare.writes_none) no_bytes in
     let sent : request ≡ fronts.Query (canon (rewritten (cell_for keys s.coming (written tree)) tree)) = er ∙ ap (λ (t : Statement). fronts.Query (canon t)) (sym (bare.as_is (cell_for keys s.coming (written tree)))) in

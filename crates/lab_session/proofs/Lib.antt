@@ -8,7 +8,6 @@ pub mod Steps
 pub mod Forwarded
 pub mod Drawing
 pub mod Meant
-pub mod Positive
 pub mod Meaning
 pub mod AnswerLaws
 pub mod Leased

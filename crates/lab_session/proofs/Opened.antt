@@ -13,9 +13,10 @@ use Rattle.acra_block.specs.Keys.{Key}
 use Rattle.acra_block.proofs.Sealed.{cell_opens}
 use Rattle.acra_block.proofs.Spelled.{sealed_parts}
 use Rattle.plain_tables.specs.Meanings.{string_limit}
-use Rattle.table_machine.specs.Stored.{bytea_text}
+use Rattle.plain_tables.specs.Rewritten.{stored_text}
+use Rattle.table_rows.specs.Tables.{Table}
 use Rattle.plain_tables.specs.Plain.{PlainCell}
-use Rattle.plain_tables.specs.Standing.{IsMeant}
+use Rattle.plain_tables.specs.Standing.{IsMeant, AreMeant}
 use Rattle.plain_tables.specs.Shown.{Opens}
 use Rattle.lab_session.specs.Cells.{sealing, opening, sealed_cell, IsStored, HasKey, text_bytes, value_of, value_in, opened_by}
 
@@ -32,7 +33,7 @@ value_again key view drawn plain stored has full short made =
     kinds.Sealed key view drawn plain short tt full has.least has.fits has.given has.who has.found)
 
 -- bytes in text form mean these bytes
-pub text_again : (bytes : List ℕ) → IsBytes bytes → text_bytes (bytea_text bytes) ≡ Some bytes
+pub text_again : (bytes : List ℕ) → IsBytes bytes → text_bytes (stored_text bytes) ≡ Some bytes
 text_again bytes h = ap result_ok (decode_of-encode_lower bytes h)
 
 pub stored_opens : (keys : Key) (view : KeyView) → HasKey view keys → (owner plain stored : List ℕ) → IsStored keys owner plain stored → Opens keys.owner (opened_by view) owner plain stored
@@ -50,6 +51,9 @@ row_opens keys view has (PlainCell.Public c ∷ PlainCell.Public d ∷ more) h =
 row_opens keys view has (PlainCell.Public c ∷ PlainCell.Protected owner plain stored ∷ d ∷ more) h = absurd h
 row_opens keys view has (PlainCell.Protected owner plain stored ∷ more) h = absurd h
 
-pub rows_open : (keys : Key) (view : KeyView) → HasKey view keys → (rows : List (List PlainCell)) → AllByRecursion (IsMeant (IsStored keys)) rows → AllByRecursion (IsMeant (Opens keys.owner (opened_by view))) rows
+rows_open : (keys : Key) (view : KeyView) → HasKey view keys → (rows : List (List PlainCell)) → AllByRecursion (IsMeant (IsStored keys)) rows → AllByRecursion (IsMeant (Opens keys.owner (opened_by view))) rows
 rows_open keys view has [] h = tt
 rows_open keys view has (row ∷ rows) h = (row_opens keys view has row h.0, rows_open keys view has rows h.1)
+
+pub tables_open : (keys : Key) (view : KeyView) → HasKey view keys → (tables : List (Table PlainCell)) → AreMeant (IsStored keys) tables → AreMeant (Opens keys.owner (opened_by view)) tables
+tables_open keys view has tables m = record { rows = m.rows; are = m.are; each = rows_open keys view has m.rows m.each }

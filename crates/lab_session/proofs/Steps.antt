@@ -14,7 +14,11 @@ use Rattle.pg_wire.specs.declared.front.Front.TheVariants as fronts
 use Rattle.pg_wire.specs.Streams.{Stream, fed, new_stream}
 use Rattle.pg_wire.specs.Frames.{asks_encryption, IsUnfinished}
 use Rattle.pg_wire.specs.Fronts.{front_body}
-use Rattle.table_machine.specs.Backend.{Lab, new_lab}
+use Rattle.table_rows.specs.Tables.{Table}
+use Rattle.table_rows.specs.declared.cell.Cell.{Cell}
+use Rattle.lab_service.specs.Sessions.{Session, new_session}
+use Rattle.lab_service.specs.Backend.{Lab}
+use Rattle.plain_tables.specs.Notes.{notes_with}
 use Rattle.plain_tables.specs.declared.encryption.Encryption.{Encryption}
 use Rattle.plain_tables.specs.declared.encryption.Encryption.TheVariants as encryption
 use Rattle.plain_tables.specs.Requests.{Request, Phase, phase_after, phase_after_all, is_opening, IsSaid, AreSaid, asking, message_of, request_bytes, stream_of, message_limit}
@@ -23,7 +27,7 @@ use Rattle.plain_tables.specs.Standing.{StandFor}
 use Rattle.acra_block.specs.Keys.{Key}
 use Rattle.lab_session.specs.Cells.{IsStored}
 use Rattle.lab_session.specs.Runs.{State, started, state_after, state_after_all, answer, answers}
-use Rattle.lab_session.specs.Session.{PieceRead, PieceTaken, Rests, SoFar, Ends, status_of, may_begin, Ran}
+use Rattle.lab_session.specs.Session.{connection, awaits_startup, PieceRead, PieceTaken, Rests, SoFar, Ends, status_of, may_begin, Ran}
 use Rattle.lab_session.specs.Answering.{request_of, phase_of, Takes, NextGives, Answered, Broken}
 use Rattle.lab_session.specs.declared.said.Next.{Next}
 use Rattle.lab_session.specs.declared.stop.Stop.{Stop}
@@ -162,20 +166,19 @@ ends_stopped stops.ReadFault left rs rest = tt
 
 -- ---- moves
 
-pub starts : (keys : Key) (g0 : ChaCha) (left held : Option (List ℕ)) (lab : Lab) (stream : Stream) → lab ≡ new_lab 1 [] → stream ≡ new_stream side.Client message_limit → SoFar keys g0 left held left held g0 lab stream 0 []
-starts keys g0 left held lab stream el es = record {
+pub starts : (keys : Key) (g0 : ChaCha) (left held : Option (List ℕ)) (lab : Lab) (stream : Stream) → lab.tables ≡ notes_with [] → connection lab ≡ new_session → stream ≡ new_stream side.Client message_limit → SoFar keys g0 left held left held g0 lab stream 0 []
+starts keys g0 left held lab stream tables el es = record {
   each = tt;
   serving = opening_not_over;
   read = subst (λ (xs : List ℕ). Shrank left left xs) (sym (ap (λ (u : Stream). u.left) es)) (shrank_nothing left);
   sent = grew_nothing held;
   rests = record {
-    stand = record { same = ap (λ (l : Lab). l.rows) el; meant = tt };
-    session = ap (λ (l : Lab). l.session) el;
-    unclosed = ap (λ (l : Lab). l.closed) el;
-    who = ap (λ (l : Lab). l.stream.who) el;
-    limit = ap (λ (l : Lab). l.stream.limit) el;
-    opening = ap (λ (l : Lab). l.stream.opening) el;
-    idle = ap (λ (l : Lab). l.stream.left) el;
+    stand = record { same = tables; meant = record { rows = []; are = refl; each = tt } };
+    goes_on = ap (λ (x : Session). x.over) el;
+    who = ap (λ (x : Session). x.stream.who) el;
+    limit = ap (λ (x : Session). x.stream.limit) el;
+    opening = ap (λ (x : Session). x.stream.opening) el;
+    idle = ap (λ (x : Session). x.stream.left) el;
   };
   drawn = refl;
   who = ap (λ (u : Stream). u.who) es;
@@ -212,14 +215,14 @@ module _ (keys : Key) (g0 : ChaCha) (left0 held0 left held : Option (List ℕ)) 
   phase_here = ap phase_of so.opening ∙ phase_is (phase_after_all Phase.Opening rs) so.serving
 
   pub answers_on : (text : List ℕ) (what : Said) (t : Stream) (g' : ChaCha) (lab' : Lab) (held' : Option (List ℕ)) → taken ≤ 2 ^ 48 → Takes stream (request_of text what) t
-      → Answered keys lab.stream.opening (state_after_all keys (started g0) rs) (request_of text what) g' lab' held held' → SoFar keys g0 left0 held0 left held' g' lab' t taken (rs ++ request_of text what ∷ [])
+      → Answered keys (awaits_startup lab) (state_after_all keys (started g0) rs) (request_of text what) g' lab' held held' → SoFar keys g0 left0 held0 left held' g' lab' t taken (rs ++ request_of text what ∷ [])
   answers_on text what t g' lab' held' small k a =
       let r = request_of text what in
       let p = phase_after_all Phase.Opening rs in
       let here = placed r t k in
       let later : phase_after_all Phase.Opening (rs ++ r ∷ []) ≡ phase_after p r = phase_more Phase.Opening rs r in
-      let lab_phase : phase_of lab.stream.opening ≡ p = ap phase_of so.rests.opening ∙ phase_is p so.serving in
-      let lab_awaits : is_opening (phase_after (phase_of lab.stream.opening) r) ≡ is_opening (phase_after_all Phase.Opening (rs ++ r ∷ [])) = ap (λ (q : Phase). is_opening (phase_after q r)) lab_phase ∙ sym (ap is_opening later) in
+      let lab_phase : phase_of (awaits_startup lab) ≡ p = ap phase_of so.rests.opening ∙ phase_is p so.serving in
+      let lab_awaits : is_opening (phase_after (phase_of (awaits_startup lab)) r) ≡ is_opening (phase_after_all Phase.Opening (rs ++ r ∷ [])) = ap (λ (q : Phase). is_opening (phase_after q r)) lab_phase ∙ sym (ap is_opening later) in
       let state = state_more keys (started g0) rs r in
       let left_is : t.left ≡ k.rest = ap (λ (u : Stream). u.left) k.after in
       let long : length stream.left ≡ length (request_bytes r) + length k.rest = ap length k.front ∙ length-append (request_bytes r) k.rest in
@@ -229,7 +232,7 @@ module _ (keys : Key) (g0 : ChaCha) (left0 held0 left held : Option (List ℕ)) 
         serving = λ e. goes_on p text what so.serving (sym later ∙ e);
         read = subst (λ (xs : List ℕ). Shrank left0 left (stream_of (rs ++ r ∷ []) xs)) (sym left_is) (read_of r t k);
         sent = subst (λ (xs : List ℕ). Grew held0 held' xs) (sym (answers_more keys (started g0) rs r)) (grew_then held0 held held' _ _ so.sent a.sent);
-        rests = subst (λ (b : Bool). Rests keys lab' (state_after_all keys (started g0) (rs ++ r ∷ [])) b) lab_awaits (subst (λ (u : State). Rests keys lab' u (is_opening (phase_after (phase_of lab.stream.opening) r))) (sym state) a.rests);
+        rests = subst (λ (b : Bool). Rests keys lab' (state_after_all keys (started g0) (rs ++ r ∷ [])) b) lab_awaits (subst (λ (u : State). Rests keys lab' u (is_opening (phase_after (phase_of (awaits_startup lab)) r))) (sym state) a.rests);
         drawn = a.drawn ∙ ap (λ (u : State). u.coming) (sym state);
         who = ap (λ (u : Stream). u.who) k.after ∙ so.who;
         limit = ap (λ (u : Stream). u.limit) k.after ∙ so.limit;
@@ -241,7 +244,7 @@ module _ (keys : Key) (g0 : ChaCha) (left0 held0 left held : Option (List ℕ)) 
   -- ---- ends
 
   -- a session ends that has answered all that it took
-  pub ends_here : (status : Status) → Ends status left rs stream.left → Ran keys g0 left0 left held0 held lab.rows status rs [] stream.left
+  pub ends_here : (status : Status) → Ends status left rs stream.left → Ran keys g0 left0 left held0 held lab.tables status rs [] stream.left
   ends_here status why =
       let none = sym (append-nil rs) in
       record {
@@ -257,7 +260,7 @@ module _ (keys : Key) (g0 : ChaCha) (left0 held0 left held : Option (List ℕ)) 
       }
 
   -- a piece was taken and is lost, or comes before the end
-  pub lost : (left' : Option (List ℕ)) (status : Status) → (p : PieceTaken left left') → Ends status left' rs (stream.left ++ p.0) → Ran keys g0 left0 left' held0 held lab.rows status rs [] (stream.left ++ p.0)
+  pub lost : (left' : Option (List ℕ)) (status : Status) → (p : PieceTaken left left') → Ends status left' rs (stream.left ++ p.0) → Ran keys g0 left0 left' held0 held lab.tables status rs [] (stream.left ++ p.0)
   lost left' status p why =
       let none = sym (append-nil rs) in
       record {
@@ -291,7 +294,7 @@ module _ (keys : Key) (g0 : ChaCha) (left0 held0 left held : Option (List ℕ)) 
 
   -- a request was begun and not answered whole
   pub breaks_off : (r : Request) (t : Stream) (lab' : Lab) (held' : Option (List ℕ)) (status : Status) → (k : Takes stream r t) → Broken keys (state_after_all keys (started g0) rs) r lab' held held' → may_begin status ≡ true → Ends status left rs k.rest
-      → Ran keys g0 left0 left held0 held' lab'.rows status rs (r ∷ []) k.rest
+      → Ran keys g0 left0 left held0 held' lab'.tables status rs (r ∷ []) k.rest
   breaks_off r t lab' held' status k b may why =
       record {
         each = said_more Phase.Opening rs r so.each (placed r t k);
@@ -301,18 +304,18 @@ module _ (keys : Key) (g0 : ChaCha) (left0 held0 left held : Option (List ℕ)) 
         more = b.sent.1;
         replies = append_assoc (answers keys (started g0) rs) b.sent.0 b.sent.1 ∙ ap (λ (xs : List ℕ). answers keys (started g0) rs ++ xs) b.sent.2 ∙ sym (answers_more keys (started g0) rs r);
         sent = grew_then held0 held held' _ _ so.sent b.sent.3;
-        stand = elim b.stand [ inl h ↦ inl h | inr h ↦ inr (subst (λ (u : State). StandFor (IsStored keys) lab'.rows u.rows) (sym (state_more keys (started g0) rs r)) h) ];
+        stand = elim b.stand [ inl h ↦ inl h | inr h ↦ inr (subst (λ (u : State). StandFor (IsStored keys) lab'.tables u.tables) (sym (state_more keys (started g0) rs r)) h) ];
         why = why;
       }
 
   -- a request was taken, and nothing was begun of it
-  pub unbegun : (lab' : Lab) (held' : Option (List ℕ)) (status : Status) → lab' ≡ lab → held' ≡ held → Ends status left rs stream.left → Ran keys g0 left0 left held0 held' lab'.rows status rs [] stream.left
+  pub unbegun : (lab' : Lab) (held' : Option (List ℕ)) (status : Status) → lab' ≡ lab → held' ≡ held → Ends status left rs stream.left → Ran keys g0 left0 left held0 held' lab'.tables status rs [] stream.left
   unbegun lab' held' status el eh why =
-      subst (λ (l : Lab). Ran keys g0 left0 left held0 held' l.rows status rs [] stream.left) (sym el)
-      (subst (λ (h : Option (List ℕ)). Ran keys g0 left0 left held0 h lab.rows status rs [] stream.left) (sym eh) (ends_here status why))
+      subst (λ (l : Lab). Ran keys g0 left0 left held0 held' l.tables status rs [] stream.left) (sym el)
+      (subst (λ (h : Option (List ℕ)). Ran keys g0 left0 left held0 h lab.tables status rs [] stream.left) (sym eh) (ends_here status why))
 
   -- the client has left
-  pub leaves : (t : Stream) → (k : Takes stream Request.Leaves t) → Ran keys g0 left0 left held0 held lab.rows ends.Done (rs ++ Request.Leaves ∷ []) [] k.rest
+  pub leaves : (t : Stream) → (k : Takes stream Request.Leaves t) → Ran keys g0 left0 left held0 held lab.tables ends.Done (rs ++ Request.Leaves ∷ []) [] k.rest
   leaves t k =
       let all = rs ++ Request.Leaves ∷ [] in
       let none = sym (append-nil all) in
@@ -325,6 +328,6 @@ module _ (keys : Key) (g0 : ChaCha) (left0 held0 left held : Option (List ℕ)) 
         more = [];
         replies = append-nil (answers keys (started g0) all ++ []) ∙ append-nil (answers keys (started g0) all) ∙ ap (answers keys (started g0)) none;
         sent = subst (λ (xs : List ℕ). Grew held0 held xs) (sym (append-nil (answers keys (started g0) all) ∙ replies)) so.sent;
-        stand = inl (subst (λ (u : State). StandFor (IsStored keys) lab.rows u.rows) (sym (state_more keys (started g0) rs Request.Leaves)) so.rests.stand);
+        stand = inl (subst (λ (u : State). StandFor (IsStored keys) lab.tables u.tables) (sym (state_more keys (started g0) rs Request.Leaves)) so.rests.stand);
         why = inr (phase_more Phase.Opening rs Request.Leaves);
       }

@@ -7,8 +7,7 @@ use Rattle.pg_wire.specs.Streams.{Stream, behind}
 use Rattle.pg_wire.specs.Frames.{IsFrame, IsUnfinished}
 use Rattle.pg_wire.specs.declared.frame.Side.TheVariants as side
 use Rattle.pg_wire.specs.Fronts.{IsFront, front_kind, front_body}
-use Rattle.sql_profile.specs.Tree.{IsStatement}
-use Rattle.table_machine.specs.Backend.{Lab}
+use Rattle.lab_service.specs.Backend.{Lab}
 use Rattle.plain_tables.specs.Requests.{Request, Phase, phase_after, is_opening, IsSaid, message_of, request_bytes, message_limit}
 use Rattle.plain_tables.specs.Meanings.{has_short_strings}
 use Rattle.plain_tables.specs.BadMessages.{IsBad}
@@ -16,11 +15,12 @@ use Rattle.plain_tables.specs.Standing.{StandFor}
 use Rattle.acra_block.specs.Keys.{Key}
 use Rattle.keystore.specs.Rings.{RingState}
 use Rattle.lab_session.specs.Cells.{IsStored}
-use Rattle.lab_session.specs.Runs.{State, written, cell_for, drawn_for, state_after, answer}
+use Rattle.lab_session.specs.Runs.{State, cell_for, drawn_for, state_after, answer}
 use Rattle.hex.specs.Hex.{IsBytes}
-use Rattle.sql_profile.specs.declared.statement.Statement.{Statement}
-use Rattle.sql_profile.specs.Canonical.{canon}
-use Rattle.plain_tables.specs.Rewritten.{rewritten, protected_of}
+use Rattle.sql_tree.specs.declared.statement.Statement.{Statement}
+use Rattle.sql_tree.specs.Canonical.{canon}
+use Rattle.plain_tables.specs.Served.{IsServed}
+use Rattle.plain_tables.specs.Rewritten.{written, rewritten, protected_of}
 use Rattle.lab_session.specs.declared.plan.Plan.{Plan}
 use Rattle.lab_session.specs.Session.{Rests, SentFront}
 use Rattle.lab_session.specs.Leases.{after_leases}
@@ -82,7 +82,7 @@ pub record IsPlan (keys : Key) (g g' : ChaCha) (tree : Statement) (plan : Plan) 
 abbrev pub CanAnswer : Bool → Said → Type 0
 CanAnswer opening (said.Encrypts how) = opening ≡ true
 CanAnswer opening (said.Opens params) = (opening ≡ true) × IsFront (fronts.Startup params) × IsFrame side.Client message_limit true 0 (front_body (fronts.Startup params))
-CanAnswer opening (said.Asks tree) = (opening ≡ false) × IsStatement tree × (has_short_strings tree ≡ true)
+CanAnswer opening (said.Asks tree) = (opening ≡ false) × IsServed tree × (has_short_strings tree ≡ true)
 CanAnswer opening said.Empties = opening ≡ false
 CanAnswer opening (said.Refused cause) = opening ≡ false
 
@@ -94,7 +94,7 @@ pub record Answered (keys : Key) (awaits : Bool) (s : State) (r : Request) (g : 
 
 -- the request was executed or not, and a front of its reply sent
 pub record Broken (keys : Key) (s : State) (r : Request) (lab : Lab) (old new : Option (List ℕ)) : Type 0 where
-  pub stand : StandFor (IsStored keys) lab.rows s.rows ⊎ StandFor (IsStored keys) lab.rows (state_after keys s r).rows
+  pub stand : StandFor (IsStored keys) lab.tables s.tables ⊎ StandFor (IsStored keys) lab.tables (state_after keys s r).tables
   pub sent : SentFront old new (answer keys s r)
 
 abbrev pub AnswerGives : {T E : Type 0} → Key → Bool → State → Request → Result T E → ChaCha → Lab → Option (List ℕ) → Option (List ℕ) → Type 0

@@ -1,24 +1,23 @@
 -- The leases of a session: which requests need the client's keys, and what is left of the ring.
 use Rattle.std.specs.Prelude.{ℕ, ◌≡◌, ◌+◌, ◌^◌, ◌<◌, ◌||◌, Bool, false, is_some, Some, List, count_by}
 use Rattle.std.specs.List.{list_any, AllByRecursion}
-use Rattle.sql_profile.specs.declared.statement.Items.TheVariants as select
-use Rattle.sql_profile.specs.declared.statement.Statement.{Statement}
-use Rattle.sql_profile.specs.declared.statement.Statement.TheVariants as statement
+use Rattle.sql_tree.specs.declared.statement.Items.TheVariants as select
+use Rattle.sql_tree.specs.declared.statement.Statement.{Statement}
+use Rattle.sql_tree.specs.declared.statement.Statement.TheVariants as statement
 use Rattle.plain_tables.specs.Requests.{Request}
-use Rattle.plain_tables.specs.Rewritten.{is_protected}
+use Rattle.plain_tables.specs.Rewritten.{written, is_protected}
 use Rattle.acra_block.specs.Keys.{Key}
 use Rattle.keystore.specs.declared.tickets.Ticket.{Ticket}
 use Rattle.keystore.specs.Rings.{RingState, current_of, view_of}
 use Rattle.lab_session.specs.Cells.{HasKey}
-use Rattle.lab_session.specs.Runs.{written}
 
 -- a statement has a place where it writes a string of the protected column
 abbrev pub has_place : Statement → Bool
 has_place tree = is_some (written tree)
 
 abbrev pub shows_protected : Statement → Bool
-shows_protected (statement.Select table (select.Columns items)) = list_any is_protected items
-shows_protected (statement.Insert table columns rows) = false
+shows_protected (statement.Select table (select.Columns items) cond order limit offset) = list_any is_protected items
+shows_protected tree = false
 
 abbrev pub needs_lease : Statement → Bool
 needs_lease tree = has_place tree || shows_protected tree

@@ -9,10 +9,12 @@ use Rattle.pg_wire.specs.Streams.{Stream}
 use Rattle.pg_wire.specs.Fronts.{IsFront, front_kind, front_body}
 use Rattle.pg_wire.specs.Backs.{back_frame}
 use Rattle.pg_wire.specs.Frames.{IsFrame, asks_encryption}
-use Rattle.table_machine.specs.Replies.{IsWritable}
-use Rattle.table_machine.specs.Backend.{Lab, IsRequest, Replies, text_limit}
+use Rattle.lab_service.specs.Replies.{IsWritable}
+use Rattle.lab_service.specs.Sessions.{IsRequest, text_limit}
+use Rattle.lab_service.specs.Backend.{Lab, Replies}
 use Rattle.plain_tables.specs.Reply.{reply_bytes}
-use Rattle.lab_session.specs.Session.{SentFront}
+use Rattle.lab_session.specs.Runs.{session_number}
+use Rattle.lab_session.specs.Session.{SentFront, connection, awaits_startup}
 
 -- the bytes are these messages
 abbrev pub IsReply : List ℕ → List Back → Type 0
@@ -39,29 +41,28 @@ Sends old new (Err e) bytes = SentFront old new bytes
 
 -- the backend of a session between two requests, whatever its tables
 pub record IsIdle (lab : Lab) : Type 0 where
-  pub unclosed : lab.closed ≡ false
-  pub who : lab.stream.who ≡ side.Client
-  pub limit : lab.stream.limit ≡ text_limit
-  pub idle : lab.stream.left ≡ []
+  pub goes_on : (connection lab).over ≡ false
+  pub who : (connection lab).stream.who ≡ side.Client
+  pub limit : (connection lab).stream.limit ≡ text_limit
+  pub idle : (connection lab).stream.left ≡ []
 
 -- the backend executed a request, and the messages of its reply were shown
 pub record Forwards (show : Back → Back) (lab : Lab) (request : Front) (after : Lab) (old new : Option (List ℕ)) : Type 0 where
   pub messages : List Back
-  pub replies : Replies lab.session request lab.rows messages after.rows
+  pub replies : Replies session_number request lab.tables messages after.tables
   pub idle : IsIdle after
-  pub session : after.session ≡ lab.session
-  pub opening : after.stream.opening ≡ (lab.stream.opening && asks_encryption (front_body request))
+  pub opening : awaits_startup after ≡ (awaits_startup lab && asks_encryption (front_body request))
   pub sent : Grew old new (reply_bytes (map show messages))
 
 -- the backend executed a request, and a front of its reply was shown
 pub record Breaks (show : Back → Back) (lab : Lab) (request : Front) (after : Lab) (old new : Option (List ℕ)) : Type 0 where
   pub messages : List Back
-  pub replies : Replies lab.session request lab.rows messages after.rows
+  pub replies : Replies session_number request lab.tables messages after.tables
   pub sent : SentFront old new (reply_bytes (map show messages))
 
 abbrev pub ForwardGives : {T E : Type 0} → (Back → Back) → Lab → Front → Result T E → Lab → Option (List ℕ) → Option (List ℕ) → Type 0
 ForwardGives show lab request (Ok t) after old new = Forwards show lab request after old new
-ForwardGives show lab request (Err e) after old new = ((after.rows ≡ lab.rows) × Grew old new []) ⊎ Breaks show lab request after old new
+ForwardGives show lab request (Err e) after old new = ((after.tables ≡ lab.tables) × Grew old new []) ⊎ Breaks show lab request after old new
 
 -- a request that may be sent to the backend now
 pub record CanSend (opening : Bool) (request : Front) : Type 0 where

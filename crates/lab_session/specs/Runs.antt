@@ -2,28 +2,14 @@
 use Rattle.std.specs.Prelude.{ℕ, List, [], ◌∷◌, ◌++◌, Option, Some, None}
 use Rattle.rand_chacha.specs.ChaCha.{ChaCha}
 use Rattle.acra_base.specs.Draws.{drawn}
-use Rattle.sql_profile.specs.declared.statement.Operand.{Operand}
-use Rattle.sql_profile.specs.declared.statement.Operand.TheVariants as operand
-use Rattle.sql_profile.specs.declared.statement.Statement.{Statement}
-use Rattle.sql_profile.specs.declared.statement.Statement.TheVariants as statement
+use Rattle.table_rows.specs.Tables.{Table}
+use Rattle.plain_tables.specs.Notes.{notes_with}
 use Rattle.plain_tables.specs.Requests.{Request}
 use Rattle.plain_tables.specs.Plain.{PlainCell}
-use Rattle.plain_tables.specs.Reply.{reply, rows_then}
+use Rattle.plain_tables.specs.Reply.{reply, tables_then}
+use Rattle.plain_tables.specs.Rewritten.{written}
 use Rattle.acra_block.specs.Keys.{Key}
 use Rattle.lab_session.specs.Cells.{sealed_cell}
-
--- the string that a statement writes
-abbrev pub written_values : List Operand → Option (List ℕ)
-written_values (number ∷ operand.Text text ∷ []) = Some text
-written_values values = None
-
-abbrev pub written_rows : List (List Operand) → Option (List ℕ)
-written_rows (row ∷ []) = written_values row
-written_rows rows = None
-
-abbrev pub written : Statement → Option (List ℕ)
-written (statement.Select table items) = None
-written (statement.Insert table columns rows) = written_rows rows
 
 -- the cell of a written string takes the next 56 bytes
 abbrev pub cell_for : Key → ChaCha → Option (List ℕ) → List ℕ
@@ -42,16 +28,16 @@ written_by request = None
 
 -- the plaintext tables, and the generator of the drawn bytes
 pub record State : Type 0 where
-  pub rows : List (List PlainCell)
+  pub tables : List (Table PlainCell)
   pub coming : ChaCha
 
--- empty tables
+-- the table without rows
 abbrev pub started : ChaCha → State
-started g = record { rows = []; coming = g }
+started g = record { tables = notes_with []; coming = g }
 
 abbrev pub state_after : Key → State → Request → State
 state_after keys s request = record {
-  rows = rows_then keys.owner (cell_for keys s.coming (written_by request)) request s.rows;
+  tables = tables_then keys.owner (cell_for keys s.coming (written_by request)) request s.tables;
   coming = drawn_for s.coming (written_by request);
 }
 
@@ -59,9 +45,13 @@ abbrev pub state_after_all : Key → State → List Request → State
 state_after_all keys s [] = s
 state_after_all keys s (request ∷ requests) = state_after_all keys (state_after keys s request) requests
 
--- the reply to a request of session 1
+-- the number of this session
+abbrev pub session_number : ℕ
+session_number = 1
+
+-- the reply to a request
 abbrev pub answer : Key → State → Request → List ℕ
-answer keys s request = reply keys.owner 1 request s.rows
+answer keys s request = reply keys.owner session_number request s.tables
 
 -- the replies to the requests, one after the other
 abbrev pub answers : Key → State → List Request → List ℕ

@@ -5,14 +5,16 @@ use Rattle.rand_chacha.specs.ChaCha.{ChaCha}
 use Rattle.acra_base.specs.Known.{Grew, Shrank, IsAtEnd}
 use Rattle.pg_wire.specs.declared.frame.Side.TheVariants as side
 use Rattle.pg_wire.specs.Streams.{Stream, fed}
-use Rattle.table_machine.specs.declared.cell.Cell.{Cell}
-use Rattle.table_machine.specs.Backend.{Lab, text_limit}
+use Rattle.table_rows.specs.declared.cell.Cell.{Cell}
+use Rattle.table_rows.specs.Tables.{Table}
+use Rattle.lab_service.specs.Backend.{Lab, session_of}
+use Rattle.lab_service.specs.Sessions.{Session, text_limit}
 use Rattle.plain_tables.specs.Requests.{Request, Phase, phase_after_all, is_opening, AreSaid, request_bytes, stream_of, message_limit}
 use Rattle.plain_tables.specs.BadMessages.{IsBad, IsCut}
 use Rattle.plain_tables.specs.Standing.{StandFor}
 use Rattle.acra_block.specs.Keys.{Key}
 use Rattle.lab_session.specs.Cells.{IsStored}
-use Rattle.lab_session.specs.Runs.{State, started, state_after_all, answers}
+use Rattle.lab_session.specs.Runs.{State, session_number, started, state_after_all, answers}
 use Rattle.lab_session.specs.declared.status.Status.{Status}
 use Rattle.lab_session.specs.declared.status.Status.TheVariants as ends
 use Rattle.lab_session.specs.declared.stop.Stop.{Stop}
@@ -37,15 +39,22 @@ SentFront old new bytes = (part : List ℕ) × (more : List ℕ) × (part ++ mor
 
 -- ---- the backend between two requests
 
--- the backend has executed all that was sent, and its tables stand for these rows
+-- what the backend has of this session
+abbrev pub connection : Lab → Session
+connection lab = session_of lab session_number
+
+-- whether it awaits the session's startup
+abbrev pub awaits_startup : Lab → Bool
+awaits_startup lab = (connection lab).stream.opening
+
+-- the backend has executed all that was sent, and its tables stand for these
 pub record Rests (keys : Key) (lab : Lab) (s : State) (awaits : Bool) : Type 0 where
-  pub stand : StandFor (IsStored keys) lab.rows s.rows
-  pub session : lab.session ≡ 1
-  pub unclosed : lab.closed ≡ false
-  pub who : lab.stream.who ≡ side.Client
-  pub limit : lab.stream.limit ≡ text_limit
-  pub opening : lab.stream.opening ≡ awaits
-  pub idle : lab.stream.left ≡ []
+  pub stand : StandFor (IsStored keys) lab.tables s.tables
+  pub goes_on : (connection lab).over ≡ false
+  pub who : (connection lab).stream.who ≡ side.Client
+  pub limit : (connection lab).stream.limit ≡ text_limit
+  pub opening : awaits_startup lab ≡ awaits
+  pub idle : (connection lab).stream.left ≡ []
 
 -- ---- a session so far
 
@@ -95,7 +104,7 @@ MayBegin status (request ∷ []) = may_begin status ≡ true
 MayBegin status (request ∷ more ∷ requests) = ⊥
 
 -- a session ended so: it answered these requests whole, and at most one more in part
-pub record Ran (keys : Key) (g0 : ChaCha) (left0 left held0 held : Option (List ℕ)) (tables : List (List Cell)) (status : Status) (answered begun : List Request) (rest : List ℕ) : Type 0 where
+pub record Ran (keys : Key) (g0 : ChaCha) (left0 left held0 held : Option (List ℕ)) (tables : List (Table Cell)) (status : Status) (answered begun : List Request) (rest : List ℕ) : Type 0 where
   pub each : AreSaid Phase.Opening (answered ++ begun)
   pub read : Shrank left0 left (stream_of (answered ++ begun) rest)
   pub why_begun : MayBegin status begun
@@ -104,5 +113,5 @@ pub record Ran (keys : Key) (g0 : ChaCha) (left0 left held0 held : Option (List 
   pub more : List ℕ
   pub replies : answers keys (started g0) answered ++ behind ++ more ≡ answers keys (started g0) (answered ++ begun)
   pub sent : Grew held0 held (answers keys (started g0) answered ++ behind)
-  pub stand : StandFor (IsStored keys) tables (state_after_all keys (started g0) answered).rows ⊎ StandFor (IsStored keys) tables (state_after_all keys (started g0) (answered ++ begun)).rows
+  pub stand : StandFor (IsStored keys) tables (state_after_all keys (started g0) answered).tables ⊎ StandFor (IsStored keys) tables (state_after_all keys (started g0) (answered ++ begun)).tables
   pub why : Ends status left answered rest

@@ -1,14 +1,13 @@
 ghost use Rattle.std.specs.Prelude.{◌≡◌, ◌≤◌, ℕ, List, [], ◌∷◌, false, IsErrOf};
 ghost use Rattle.acra_base.specs.Causes.{Rose};
-ghost use Rattle.sql_profile.specs.Tree.{IsStatement};
-ghost use Rattle.table_machine.specs.Replies.{ready};
+ghost use Rattle.lab_service.specs.Replies.{ready};
 ghost use Rattle.plain_tables.specs.Reply.{reply_bytes};
 ghost use Rattle.pg_wire.specs.declared.back.Back.TheVariants.{EmptyQuery};
 ghost use Rattle.acra_block.specs.Keys.{Key};
 ghost use Rattle.acra_block.specs.declared.keys.KeyView.{KeyView as View};
 ghost use Rattle.lab_session.specs.Cells.{HasKey};
 ghost use Rattle.lab_session.specs.Leases.{needs_lease, Lends};
-ghost use Rattle.lab_session.specs.Session.{Rests};
+ghost use Rattle.lab_session.specs.Session.{Rests, awaits_startup};
 ghost use Rattle.lab_session.specs.Relaying.{IsIdle, Sends};
 ghost use Rattle.lab_session.specs.Runs.{State};
 ghost use Rattle.lab_session.specs.Answering.{CanAnswer, AnswerGives, ServeGives, request_of};
@@ -24,10 +23,10 @@ use crate::stop::Stop;
 use acra_base::{ClientId, Sink, SureRandom};
 use acra_block::{KeyView, OwnerKey};
 use keystore::Ring;
+use lab_service::{LabBackend, write_ready};
 use pg_wire::{Back, Front, write_back};
-use sql_profile::Statement;
+use sql_tree::Statement;
 use std::alloc::Global;
-use table_machine::{LabBackend, write_ready};
 
 // Sends a statement on with its string sealed, and shows the reply, by the keys of a lease.
 fn answer_leased<K: Sink>(
@@ -41,9 +40,9 @@ fn answer_leased<K: Sink>(
 ) -> Result<(), Stop>
     requires view { HasKey view.now key.now }
     requires idle { IsIdle backend.old }
-    requires can { CanAnswer backend.old.stream.opening (said_as.Asks tree) }
-    ensures gives { (s : State) (text : List ℕ) → Rests key.now backend.old s backend.old.stream.opening → random.old ≡ s.coming
-        → AnswerGives key.now backend.old.stream.opening s (request_of text (said_as.Asks tree)) result random.new backend.new (K.held output.old) (K.held output.new) }
+    requires can { CanAnswer (awaits_startup backend.old) (said_as.Asks tree) }
+    ensures gives { (s : State) (text : List ℕ) → Rests key.now backend.old s (awaits_startup backend.old) → random.old ≡ s.coming
+        → AnswerGives key.now (awaits_startup backend.old) s (request_of text (said_as.Asks tree)) result random.new backend.new (K.held output.old) (K.held output.new) }
     ensures later { K.write_faults output.old ≤ K.write_faults output.new }
     ensures fault { IsErrOf result Stop.WriteFault → Rose (K.write_faults output.old) (K.write_faults output.new) }
     ensures no_read { IsErrOf result Stop.ReadFault → ⊥ }
@@ -64,9 +63,9 @@ fn answer_bare<K: Sink>(
 ) -> Result<(), Stop>
     requires bare { needs_lease tree.now ≡ false }
     requires idle { IsIdle backend.old }
-    requires can { CanAnswer backend.old.stream.opening (said_as.Asks tree.now) }
-    ensures gives { (key : Key) (keys : View) (s : State) (text : List ℕ) → HasKey keys key → Rests key backend.old s backend.old.stream.opening
-        → AnswerGives key backend.old.stream.opening s (request_of text (said_as.Asks tree.now)) result s.coming backend.new (K.held output.old) (K.held output.new) }
+    requires can { CanAnswer (awaits_startup backend.old) (said_as.Asks tree.now) }
+    ensures gives { (key : Key) (keys : View) (s : State) (text : List ℕ) → HasKey keys key → Rests key backend.old s (awaits_startup backend.old)
+        → AnswerGives key (awaits_startup backend.old) s (request_of text (said_as.Asks tree.now)) result s.coming backend.new (K.held output.old) (K.held output.new) }
     ensures later { K.write_faults output.old ≤ K.write_faults output.new }
     ensures fault { IsErrOf result Stop.WriteFault → Rose (K.write_faults output.old) (K.write_faults output.new) }
     ensures no_read { IsErrOf result Stop.ReadFault → ⊥ }
@@ -89,9 +88,9 @@ fn answer_statement<K: Sink>(
 ) -> Result<(), Stop>
     requires lends { (key : Key) × Lends ring.old who.now key }
     requires idle { IsIdle backend.old }
-    requires can { CanAnswer backend.old.stream.opening (said_as.Asks tree) }
-    ensures gives { (key : Key) (s : State) (text : List ℕ) → Lends ring.old who.now key → Rests key backend.old s backend.old.stream.opening → random.old ≡ s.coming
-        → ServeGives key backend.old.stream.opening s (request_of text (said_as.Asks tree)) result random.new ring.old ring.new backend.old backend.new (K.held output.old) (K.held output.new) }
+    requires can { CanAnswer (awaits_startup backend.old) (said_as.Asks tree) }
+    ensures gives { (key : Key) (s : State) (text : List ℕ) → Lends ring.old who.now key → Rests key backend.old s (awaits_startup backend.old) → random.old ≡ s.coming
+        → ServeGives key (awaits_startup backend.old) s (request_of text (said_as.Asks tree)) result random.new ring.old ring.new backend.old backend.new (K.held output.old) (K.held output.new) }
     ensures later { K.write_faults output.old ≤ K.write_faults output.new }
     ensures fault { IsErrOf result Stop.WriteFault → Rose (K.write_faults output.old) (K.write_faults output.new) }
     ensures no_read { IsErrOf result Stop.ReadFault → ⊥ }
@@ -135,9 +134,9 @@ pub fn answer<K: Sink>(
 ) -> Result<(), Stop>
     requires lends { (key : Key) × Lends ring.old who.now key }
     requires idle { IsIdle backend.old }
-    requires can { CanAnswer backend.old.stream.opening said }
-    ensures gives { (key : Key) (s : State) (text : List ℕ) → Lends ring.old who.now key → Rests key backend.old s backend.old.stream.opening → random.old ≡ s.coming
-        → ServeGives key backend.old.stream.opening s (request_of text said) result random.new ring.old ring.new backend.old backend.new (K.held output.old) (K.held output.new) }
+    requires can { CanAnswer (awaits_startup backend.old) said }
+    ensures gives { (key : Key) (s : State) (text : List ℕ) → Lends ring.old who.now key → Rests key backend.old s (awaits_startup backend.old) → random.old ≡ s.coming
+        → ServeGives key (awaits_startup backend.old) s (request_of text said) result random.new ring.old ring.new backend.old backend.new (K.held output.old) (K.held output.new) }
     ensures later { K.write_faults output.old ≤ K.write_faults output.new }
     ensures fault { IsErrOf result Stop.WriteFault → Rose (K.write_faults output.old) (K.write_faults output.new) }
     ensures no_read { IsErrOf result Stop.ReadFault → ⊥ }

@@ -1,18 +1,21 @@
 ghost use Rattle.std.specs.Prelude.{◌≡◌, ◌≤◌, ◌+◌, ◌<◌, ◌^◌, length, IsErrOf};
 ghost use Rattle.acra_base.specs.Causes.{Rose};
 ghost use Rattle.pg_wire.specs.Fronts.{IsFront, front_body};
-ghost use Rattle.table_machine.specs.Backend.{IsRequest, text_limit};
 ghost use Rattle.plain_tables.specs.Shown.{shown_message};
 ghost use Rattle.lab_session.specs.Cells.{opened_by};
+ghost use Rattle.lab_session.specs.Session.{awaits_startup};
 ghost use Rattle.lab_session.specs.Relaying.{IsIdle, ForwardGives, CanSend};
 
 use crate::relay::relay;
 use crate::stop::Stop;
 use acra_base::Sink;
 use acra_block::KeyView;
+use lab_service::LabBackend;
 use pg_wire::{Front, write_front};
 use std::alloc::Global;
-use table_machine::LabBackend;
+
+/// The number under which the backend has this session.
+const SESSION: u16 = 1;
 
 /// Sends a request to the backend, which executes it, and shows its reply to the client.
 pub fn forward<K: Sink>(
@@ -24,7 +27,7 @@ pub fn forward<K: Sink>(
     protected: &[bool],
 ) -> Result<(), Stop>
     requires idle { IsIdle backend.old }
-    requires sendable { CanSend backend.old.stream.opening request.now }
+    requires sendable { CanSend (awaits_startup backend.old) request.now }
     ensures sent { ForwardGives (shown_message (opened_by view.now) protected.now) backend.old request.now result backend.new
         (K.held output.old) (K.held output.new) }
     ensures later { K.write_faults output.old ≤ K.write_faults output.new }
@@ -33,9 +36,9 @@ pub fn forward<K: Sink>(
 {
     let mut bytes = Vec::new(alloc);
     write_front(request, &mut bytes)?;
-    backend.feed(&bytes)?;
+    backend.feed(SESSION, &bytes)?;
     let mut reply = Vec::new(alloc);
-    match backend.execute(&mut reply) {
+    match backend.execute(SESSION, &mut reply) {
         Err(_) => Err(Stop::NoMemory),
         Ok(true) => relay(alloc, view, protected, &reply, output),
         Ok(false) => unreachable!(),

@@ -10,7 +10,7 @@ use crate::stop::Stop;
 use acra_base::{ClientId, Sequence};
 use acra_block::KeyView;
 use keystore::{Lease, LeaseRefusal, Ring};
-use sql_profile::{Item, Items, Statement};
+use sql_tree::{Item, Items, Statement};
 use std::alloc::Global;
 
 fn any_protected(items: &[Item]) -> bool
@@ -24,11 +24,11 @@ fn shows_protected(tree: &Statement) -> bool
     ensures { result ≡ shows_protected tree.now }
 {
     match tree {
-        Statement::Select { items, .. } => {
-            let Items::Columns(items) = items;
-            any_protected(items.as_slice())
-        }
-        Statement::Insert { .. } => false,
+        Statement::Select {
+            items: Items::Columns(items),
+            ..
+        } => any_protected(items.as_slice()),
+        _ => false,
     }
 }
 

@@ -2,12 +2,11 @@ ghost use Rattle.std.specs.Prelude.{◌≡◌, IfOk, Ok};
 ghost use Rattle.std.specs.List.{list_all};
 ghost use Rattle.plain_tables.specs.Meanings.{Means, has_short_strings, is_nothing, is_short_value, meaning_of, meaning_served, refusal_of};
 
-use crate::narrowing::narrow;
+use crate::served::is_served;
 use acra_base::{NoMemory, Sequence};
 use plain_tables::{Meaning, Refusal};
 use sql_parser::{ParseFault, SqlKind, SqlRefusal, parse};
-use sql_profile::{Operand, Statement};
-use sql_tree::Statement as AnyStatement;
+use sql_tree::{Operand, Statement};
 use std::alloc::Global;
 
 /// A Query's text has at most this many bytes.
@@ -21,7 +20,7 @@ fn is_short(value: &Operand) -> bool
 {
     match value {
         Operand::Text(text) => text.len() <= STRING_LIMIT,
-        Operand::Number(_) => true,
+        _ => true,
     }
 }
 
@@ -47,8 +46,8 @@ fn has_short_strings(tree: &Statement) -> bool
     ensures { result ≡ has_short_strings tree.now }
 {
     match tree {
-        Statement::Select { .. } => true,
         Statement::Insert { rows, .. } => rows_are_short(rows.as_slice()),
+        _ => true,
     }
 }
 
@@ -65,35 +64,30 @@ fn refusal_of(refusal: SqlRefusal) -> Refusal
     }
 }
 
-// What a statement asks that may be served.
-fn meaning_served(found: Option<Statement>) -> Meaning
-    ensures { result ≡ meaning_served found }
+// What a statement asks that isn't empty.
+fn meaning_served(tree: Statement) -> Meaning
+    ensures { result ≡ meaning_served tree }
 {
-    match found {
-        None => Meaning::Refused(Refusal::NotServed),
-        Some(tree) => {
-            if has_short_strings(&tree) {
-                Meaning::Serves(tree)
-            } else {
-                Meaning::Refused(Refusal::NotServed)
-            }
-        }
+    if is_served(&tree) && has_short_strings(&tree) {
+        Meaning::Serves(tree)
+    } else {
+        Meaning::Refused(Refusal::NotServed)
     }
 }
 
-fn is_nothing(tree: &AnyStatement) -> bool
+fn is_nothing(tree: &Statement) -> bool
     ensures { result ≡ is_nothing tree.now }
 {
-    matches!(tree, AnyStatement::Empty)
+    matches!(tree, Statement::Empty)
 }
 
-fn meaning_of(alloc: Global, tree: AnyStatement) -> Result<Meaning, NoMemory>
-    ensures { IfOk result (λ what. what ≡ meaning_of (Ok tree)) }
+fn meaning_of(tree: Statement) -> Meaning
+    ensures { result ≡ meaning_of (Ok tree) }
 {
     if is_nothing(&tree) {
-        return Ok(Meaning::Nothing);
+        return Meaning::Nothing;
     }
-    Ok(meaning_served(narrow(alloc, tree)?))
+    meaning_served(tree)
 }
 
 /// What a text asks.
@@ -103,6 +97,6 @@ pub fn text_meaning(alloc: Global, text: &[u8]) -> Result<Meaning, NoMemory>
     match parse(alloc, text, TEXT_LIMIT) {
         Err(ParseFault::NoMemory) => Err(NoMemory),
         Err(ParseFault::Refused(refusal)) => Ok(Meaning::Refused(refusal_of(refusal))),
-        Ok(tree) => meaning_of(alloc, tree),
+        Ok(tree) => Ok(meaning_of(tree)),
     }
 }

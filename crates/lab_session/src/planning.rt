@@ -1,6 +1,6 @@
 ghost use Rattle.std.specs.Prelude.{◌≡◌, true, IfOk};
-ghost use Rattle.sql_profile.specs.Tree.{IsStatement};
-ghost use Rattle.sql_profile.specs.Canonical.{canon};
+ghost use Rattle.sql_tree.specs.Canonical.{canon};
+ghost use Rattle.plain_tables.specs.Served.{IsServed};
 ghost use Rattle.plain_tables.specs.Meanings.{has_short_strings};
 ghost use Rattle.lab_session.specs.Answering.{IsPlan};
 
@@ -9,7 +9,7 @@ use crate::rewriting::{protected_columns, sealed_statement};
 use acra_base::{Bytes, NoMemory, SureRandom};
 use acra_block::OwnerKey;
 use pg_wire::Front;
-use sql_profile::{Statement, print};
+use sql_tree::{Statement, print};
 use std::alloc::Global;
 
 /// The request for a statement: its canonical text.
@@ -28,7 +28,7 @@ pub fn plan_for(
     random: &mut SureRandom,
     tree: Statement,
 ) -> Result<Plan, NoMemory>
-    requires statement { IsStatement tree }
+    requires served { IsServed tree }
     requires short { has_short_strings tree ≡ true }
     ensures { IfOk result (λ plan. IsPlan key.now random.old random.new tree plan) }
 {

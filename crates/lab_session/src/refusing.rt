@@ -1,6 +1,6 @@
 ghost use Rattle.std.specs.Prelude.{◌≡◌, ◌≤◌, ◌∷◌, [], IfOk, IsErrOf};
 ghost use Rattle.acra_base.specs.Causes.{Rose};
-ghost use Rattle.table_machine.specs.Replies.{IsWritable, ready};
+ghost use Rattle.lab_service.specs.Replies.{ready};
 ghost use Rattle.plain_tables.specs.Reply.{reply_bytes};
 ghost use Rattle.plain_tables.specs.Refusals.{refusal_code, refusal_text, refusal_message};
 ghost use Rattle.plain_tables.specs.declared.refusal.Refusal.TheVariants as causes;
@@ -9,9 +9,9 @@ ghost use Rattle.lab_session.specs.Relaying.{Sends};
 use crate::send::send;
 use crate::stop::Stop;
 use acra_base::{Bytes, NoMemory, Sink};
+use lab_service::{write_error, write_ready};
 use plain_tables::Refusal;
 use std::alloc::Global;
-use table_machine::{write_error, write_ready};
 
 // The SQLSTATE code: program_limit_exceeded, feature_not_supported or syntax_error.
 fn refusal_code(cause: Refusal) -> [u8; 5]
@@ -25,16 +25,14 @@ fn refusal_code(cause: Refusal) -> [u8; 5]
 }
 
 fn misspelled_text(alloc: Global, place: u32) -> Result<Bytes, NoMemory>
-    ensures text { IfOk result (λ text. text ≡ refusal_text (causes.Misspelled place)) }
-    ensures writable { IsWritable (refusal_message (causes.Misspelled place)) }
+    ensures { IfOk result (λ text. text ≡ refusal_text (causes.Misspelled place)) }
 {
     let text = format!(in alloc; "AcraServer: not in the profile at byte {place}")?;
     Ok(Bytes::from_vec(text.into_bytes()))
 }
 
 fn refusal_text(alloc: Global, cause: Refusal) -> Result<Bytes, NoMemory>
-    ensures text { IfOk result (λ text. text ≡ refusal_text cause) }
-    ensures writable { IsWritable (refusal_message cause) }
+    ensures { IfOk result (λ text. text ≡ refusal_text cause) }
 {
     match cause {
         Refusal::TooLong => Bytes::copied(alloc, b"AcraServer: query text too long"),

@@ -2,7 +2,7 @@ ghost use Rattle.std.specs.Prelude.{◌≡◌, ◌≤◌, List, ℕ, map, IfOk, 
 ghost use Rattle.acra_base.specs.Causes.{Rose};
 ghost use Rattle.pg_wire.specs.declared.back.Back.{Back as Message};
 ghost use Rattle.pg_wire.specs.Backs.{back_frame};
-ghost use Rattle.table_machine.specs.Replies.{IsWritable};
+ghost use Rattle.lab_service.specs.Replies.{IsWritable};
 ghost use Rattle.plain_tables.specs.Reply.{reply_bytes};
 ghost use Rattle.plain_tables.specs.Shown.{shown_message};
 ghost use Rattle.lab_session.specs.Cells.{opened_by};

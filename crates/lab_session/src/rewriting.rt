@@ -1,14 +1,13 @@
 ghost use Rattle.std.specs.Prelude.{◌≡◌, map, IfOk, OnOk, option_map, true};
-ghost use Rattle.plain_tables.specs.Rewritten.{rewritten_value, rewritten, is_protected, protected_of};
+ghost use Rattle.plain_tables.specs.Rewritten.{stored_text, rewritten_value, rewritten, is_protected, protected_items, protected_of, written, written_rows, written_values};
 ghost use Rattle.hex.specs.Hex.{IsBytes};
 ghost use Rattle.plain_tables.specs.Meanings.{has_short_strings};
-ghost use Rattle.table_machine.specs.Stored.{bytea_text};
-ghost use Rattle.lab_session.specs.Runs.{written, written_rows, written_values, cell_for, drawn_for};
+ghost use Rattle.lab_session.specs.Runs.{cell_for, drawn_for};
 
-use acra_base::{Bytes, NoMemory, Sequence, SureRandom};
+use acra_base::{Bytes, Name, NoMemory, Sequence, SureRandom};
 use acra_block::{CellKind, OwnerKey, seal_cell};
 use acra_crypto::Aes256Gcm;
-use sql_profile::{Item, Items, Operand, Statement};
+use sql_tree::{Item, Items, Operand, Statement};
 use std::alloc::Global;
 
 /// Whether an item of a SELECT is the protected column.
@@ -18,20 +17,28 @@ pub fn is_protected(item: &Item) -> bool
     item.column.as_slice() == b"body".as_slice()
 }
 
-/// Which columns of a statement's result are protected.
-pub fn protected_columns(alloc: Global, tree: &Statement) -> Result<Vec<bool>, NoMemory>
-    ensures { IfOk result (λ v. v.items ≡ protected_of tree.now) }
+fn protected_items(alloc: Global, items: &Items) -> Result<Vec<bool>, NoMemory>
+    ensures { IfOk result (λ v. v.items ≡ protected_items items.now) }
 {
-    match tree {
-        Statement::Select { items, .. } => {
-            let Items::Columns(items) = items;
-            let mut protected = Vec::new(alloc);
+    let mut protected = Vec::new(alloc);
+    match items {
+        Items::Columns(items) => {
             'items: for item in items.as_slice() {
                 protected.push(is_protected(item))?;
             }
             Ok(protected)
         }
-        Statement::Insert { .. } => Ok(Vec::new(alloc)),
+        Items::All | Items::Count { .. } => Ok(protected),
+    }
+}
+
+/// Which columns of a statement's result are protected.
+pub fn protected_columns(alloc: Global, tree: &Statement) -> Result<Vec<bool>, NoMemory>
+    ensures { IfOk result (λ v. v.items ≡ protected_of tree.now) }
+{
+    match tree {
+        Statement::Select { items, .. } => protected_items(alloc, items),
+        _ => Ok(Vec::new(alloc)),
     }
 }
 
@@ -58,14 +65,14 @@ pub fn written(tree: &Statement) -> Option<&[u8]>
     ensures { option_map (λ text. text.now) result ≡ written tree.now }
 {
     match tree {
-        Statement::Select { .. } => None,
         Statement::Insert { rows, .. } => written_rows(rows.as_slice()),
+        _ => None,
     }
 }
 
 // The bytes in text form: `\x` and lower-case hexadecimal digits.
-fn bytea_text(alloc: Global, bytes: &[u8]) -> Result<Bytes, NoMemory>
-    ensures { IfOk result (λ text. text ≡ bytea_text bytes.now) }
+fn stored_text(alloc: Global, bytes: &[u8]) -> Result<Bytes, NoMemory>
+    ensures { IfOk result (λ text. text ≡ stored_text bytes.now) }
 {
     let digits = hex::encode(alloc, bytes)?;
     let mut text = Bytes::copied(alloc, b"\\x")?;
@@ -73,12 +80,22 @@ fn bytea_text(alloc: Global, bytes: &[u8]) -> Result<Bytes, NoMemory>
     Ok(text)
 }
 
+fn copied_name(alloc: Global, name: &Name) -> Result<Name, NoMemory>
+    ensures { IfOk result (λ copy. copy ≡ name.now) }
+{
+    Ok(Name::new(Bytes::copied(alloc, name.as_slice())?))
+}
+
 fn rewritten_value(alloc: Global, value: &Operand, cell: &[u8]) -> Result<Operand, NoMemory>
     ensures { IfOk result (λ new. new ≡ rewritten_value cell.now value.now) }
 {
     match value {
-        Operand::Text(_) => Ok(Operand::Text(bytea_text(alloc, cell)?)),
-        Operand::Number(n) => Ok(Operand::Number(*n)),
+        Operand::Text(_) => Ok(Operand::Text(stored_text(alloc, cell)?)),
+        Operand::Number(number) => Ok(Operand::Number(*number)),
+        Operand::NullValue => Ok(Operand::NullValue),
+        Operand::Parameter(number) => Ok(Operand::Parameter(*number)),
+        Operand::Column(name) => Ok(Operand::Column(copied_name(alloc, name)?)),
+        Operand::Prefix33(name) => Ok(Operand::Prefix33(copied_name(alloc, name)?)),
     }
 }
 
@@ -116,7 +133,6 @@ fn rewritten(alloc: Global, tree: Statement, cell: &[u8]) -> Result<Statement, N
     ensures bytes { IsBytes cell.now }
 {
     match tree {
-        Statement::Select { table, items } => Ok(Statement::Select { table, items }),
         Statement::Insert {
             table,
             columns,
@@ -126,6 +142,7 @@ fn rewritten(alloc: Global, tree: Statement, cell: &[u8]) -> Result<Statement, N
             columns,
             rows: rewritten_rows(alloc, rows.as_slice(), cell)?,
         }),
+        other => Ok(other),
     }
 }
 

@@ -8,7 +8,7 @@ use crate::meanings::text_meaning;
 use acra_base::{NoMemory, Sequence};
 use pg_wire::{Frame, Framer, Front, MessageFault, NextFault, Pair, ReadBody, read_front};
 use plain_tables::{Encryption, Meaning, Refusal};
-use sql_profile::Statement;
+use sql_tree::Statement;
 use std::alloc::Global;
 
 /// A request of the client that is answered.

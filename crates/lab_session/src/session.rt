@@ -1,12 +1,13 @@
 ghost use Rattle.std.specs.Prelude.{◌≡◌, ◌≤◌, ◌<◌, ◌+◌, ◌^◌, ℕ, List, [], ◌++◌, Some, IsSome, IfOk, OnErr, IsErrOf};
 ghost use Rattle.acra_base.specs.Causes.{Rose};
 ghost use Rattle.plain_tables.specs.Requests.{Request};
-ghost use Rattle.table_machine.specs.Backend.{new_lab};
+ghost use Rattle.lab_service.specs.Sessions.{new_session};
+ghost use Rattle.plain_tables.specs.Notes.{notes_with};
 ghost use Rattle.acra_block.specs.Keys.{Key};
 ghost use Rattle.keystore.specs.Rings.{current_of};
 ghost use Rattle.keystore.specs.Kept.{IsKept};
 ghost use Rattle.lab_session.specs.Leases.{after_leases};
-ghost use Rattle.lab_session.specs.Session.{PieceRead, PieceTaken, status_of, Ran};
+ghost use Rattle.lab_session.specs.Session.{connection, PieceRead, PieceTaken, status_of, Ran};
 
 use crate::answering::answer;
 use crate::said::{Next, next_said};
@@ -14,9 +15,9 @@ use crate::status::Status;
 use crate::stop::Stop;
 use acra_base::{ClientId, Sink, Source, SureRandom};
 use keystore::Ring;
+use lab_service::LabBackend;
 use pg_wire::{Framer, Side};
 use std::alloc::Global;
-use table_machine::LabBackend;
 
 /// A client's message has at most this length.
 const MESSAGE_LIMIT: u32 = 1 << 24;
@@ -57,7 +58,7 @@ fn read_piece<S: Source>(input: &mut S, framer: &mut Framer, room: u64) -> Resul
 /// One session of a client over the lab's backend: answers each request, in order, before it reads on.
 ///
 /// A statement that writes or shows protected values is answered under a lease of the client's keys, which is
-/// released after it. The backend has the lab's table, empty, and was fed nothing.
+/// released after it. The backend has the table notes without rows, and nothing came of session 1.
 pub fn first_session<S: Source, K: Sink>(
     alloc: Global,
     input: &mut S,
@@ -71,9 +72,10 @@ pub fn first_session<S: Source, K: Sink>(
     requires kept { IsKept ring.old }
     requires ids { ring.old.next_id < 2 ^ 64 }
     requires tickets { ring.old.next_ticket + 2 ^ 48 < 2 ^ 64 }
-    requires empty { backend.old ≡ new_lab 1 [] }
+    requires tables { backend.old.tables ≡ notes_with [] }
+    requires new { connection backend.old ≡ new_session }
     ensures ran { (key : Key) × (answered : List Request) × (begun : List Request) × (rest : List ℕ) × (current_of ring.old who.now ≡ Some key)
-        × Ran key random.old (S.left input.old) (S.left input.new) (K.held output.old) (K.held output.new) backend.new.rows result answered begun rest
+        × Ran key random.old (S.left input.old) (S.left input.new) (K.held output.old) (K.held output.new) backend.new.tables result answered begun rest
         × (ring.new ≡ after_leases ring.old (answered ++ begun)) }
     ensures read_fault { result ≡ Status.ReadFault → Rose (S.read_faults input.old) (S.read_faults input.new) }
     ensures write_fault { result ≡ Status.WriteFault → Rose (K.write_faults output.old) (K.write_faults output.new) }

@@ -1,11 +1,13 @@
 ghost use Rattle.std.specs.Prelude.{◌≡◌, []};
-ghost use Rattle.table_machine.specs.Backend.{new_lab};
+ghost use Rattle.lab_service.specs.Sessions.{new_session};
+ghost use Rattle.plain_tables.specs.Notes.{notes_with};
+ghost use Rattle.lab_session.specs.Session.{connection};
 
 use super::*;
 use acra_base::{ClientId, SureLink};
+use lab_service::LabBackend;
 use std::alloc::Global;
 use std::test::Fail;
-use table_machine::{LabBackend, Tables};
 
 /// The startup message of the client app, and an INSERT of a string that is quoted so.
 const STARTUP: &[u8] = b"\x00\x00\x00\x12\x00\x03\x00\x00user\x00app\x00\x00";
@@ -59,7 +61,8 @@ fn session(
     backend: &mut LabBackend,
     input: Vec<u8>,
 ) -> Result<(Status, Vec<u8>), Fail>
-    requires { backend.old ≡ new_lab 1 [] }
+    requires tables { backend.old.tables ≡ notes_with [] }
+    requires new { connection backend.old ≡ new_session }
 {
     let who = ClientId::read(b"app")?;
     let (mut ring, mut random) = client_ring(alloc, &who, 1)?;
@@ -80,16 +83,16 @@ fn session(
 #[test]
 fn stored_cells(rt: HostRuntime) -> Result<(), Fail> {
     let alloc = rt.alloc();
-    let mut backend = LabBackend::new(alloc, Tables::new(alloc), 1);
+    let mut backend = LabBackend::new(alloc, notes_tables(alloc)?);
     let input = joined(alloc, &[STARTUP, INSERT, INSERT])?;
     let (end, sent) = session(alloc, &mut backend, input)?;
     assert_eq!(rt; end, Status::Done);
     assert_eq!(rt; sent.len(), STARTED + 2 * INSERTED);
 
     // The backend itself, asked past the session.
-    backend.feed(b"Q\x00\x00\x00\x1bSELECT body FROM notes\x00")?;
+    backend.feed(1, b"Q\x00\x00\x00\x1bSELECT body FROM notes\x00")?;
     let mut reply = Vec::new(alloc);
-    assert!(rt; backend.execute(&mut reply)?);
+    assert!(rt; backend.execute(1, &mut reply)?);
     let stored = joined(alloc, &[DESCRIBED, ROW, FIRST, ROW, SECOND, TAG])?;
     assert_eq!(rt; reply.as_slice(), stored.as_slice());
     Ok(())
@@ -138,7 +141,7 @@ fn owner_reads_back(rt: HostRuntime) -> Result<(), Fail> {
     input.extend_from_slice(b"Q\x00\x00\x00\x1bSELECT body FROM notes\x00")?;
     rows.extend_from_slice(b"C\x00\x00\x00\x0dSELECT 4\x00Z\x00\x00\x00\x05I")?;
 
-    let mut backend = LabBackend::new(alloc, Tables::new(alloc), 1);
+    let mut backend = LabBackend::new(alloc, notes_tables(alloc)?);
     let (end, sent) = session(alloc, &mut backend, input)?;
     assert_eq!(rt; end, Status::Done);
     // 30 bytes of RowDescription stand before the rows.

@@ -1,48 +1,57 @@
--- What a rewritten statement does to the stored tables stands for what the statement does to the plaintext tables.
-use Rattle.std.proofs.Common.{ℕ, pos, ◌≡◌, List, [], ◌∷◌, ◌++◌, map, Option, Some, option_map, refl, sym, ap, subst, ◌∙◌}
-use Rattle.sql_profile.specs.declared.statement.Operand.{Operand}
-use Rattle.sql_profile.specs.declared.statement.Operand.TheVariants as operand
-use Rattle.sql_profile.specs.declared.statement.Items.TheVariants as select
-use Rattle.sql_profile.specs.declared.statement.Statement.{Statement}
-use Rattle.sql_profile.specs.declared.statement.Statement.TheVariants as statement
-use Rattle.sql_profile.specs.Tree.{IsStatement, AreValues}
-use Rattle.table_machine.specs.declared.cell.Cell.{Cell}
-use Rattle.table_machine.specs.declared.cell.Cell.TheVariants as cell
-use Rattle.table_machine.specs.Machine.{Action, rows_after}
-use Rattle.table_machine.specs.Stored.{bytea_of, bytea_text, stored_row, stored_action}
-use Rattle.table_machine.specs.Backend.{rows_then}
-use Rattle.plain_tables.specs.Plain.{PlainCell, plain_row, plain_action}
-use Rattle.plain_tables.specs.Rewritten.{rewritten, rewritten_value}
-use Rattle.plain_tables.specs.Standing.{stored_as, stored_rows}
+-- A statement on the stored tables that stand for plaintext tables is the statement on those.
+use Rattle.std.proofs.Common.{◌≡◌, ℕ, pos, ◌<◌, ◌^◌, Bool, true, List, [], ◌∷◌, ◌++◌, map, if◌then◌else◌, refl, sym, ap, subst, ◌∙◌}
+use Rattle.std.proofs.lemmas.Bool.{lt-ltb}
+use Rattle.std.proofs.lemmas.List.{map-append}
+use Rattle.acra_base.specs.declared.kind.ValueKind.TheVariants as kind
+use Rattle.sql_tree.specs.declared.condition.Operand.TheVariants as operand
+use Rattle.sql_tree.specs.declared.statement.Statement.{Statement}
+use Rattle.table_rows.specs.declared.cell.Cell.{Cell}
+use Rattle.table_rows.specs.declared.cell.Cell.TheVariants as cell
+use Rattle.table_rows.specs.Machine.{value, beyond}
+use Rattle.table_rows.specs.Stored.{stored, text_read}
+use Rattle.table_rows.specs.Tables.{Table, executed}
+use Rattle.plain_tables.specs.Notes.{notes_with}
+use Rattle.plain_tables.specs.Served.{is_served}
+use Rattle.plain_tables.specs.Plain.{PlainCell, plain, public_read}
+use Rattle.plain_tables.specs.Reply.{plain_executed}
+use Rattle.plain_tables.specs.Rewritten.{stored_text, rewritten}
+use Rattle.plain_tables.specs.Standing.{stored_as, stored_rows, stored_tables, AreMeant}
+use Rattle.plain_tables.specs.Laws.{ReadsBack}
+use Rattle.plain_tables.proofs.Parts.{Served, Fits, tree_of, by_parts}
+use Rattle.plain_tables.proofs.Executed.{select_executed, insert_executed}
 
--- an action, its cells as they are stored
-abbrev pub stored_as_action : Action PlainCell → Action Cell
-stored_as_action (Action.Adds row) = Action.Adds (map stored_as row)
-stored_as_action (Action.Gives items) = Action.Gives items
+-- ---- the values of a row
 
-row_stored : (owner stored : List ℕ) (row : List Operand) → AreValues row → bytea_of (bytea_text stored) ≡ Some stored →
-    stored_row (map (rewritten_value stored) row) ≡ Some (map stored_as (plain_row owner stored row))
-row_stored owner stored row h e =
-    let P : List Operand → Type 0 = λ r. stored_row (map (rewritten_value stored) r) ≡ Some (map stored_as (plain_row owner stored r)) in
-    let here : P (operand.Number (pos h.number) ∷ operand.Text h.text ∷ []) = ap (option_map (λ (bytes : List ℕ). cell.Int (pos h.number) ∷ cell.Bytes bytes ∷ [])) e in
-    subst P (sym h.shape) here
+pub number_stored : (n : ℕ) → n < 2 ^ 63 → (stored []).read kind.Int64 (operand.Number (pos n)) ≡ value (cell.Int (pos n))
+number_stored n h = ap (λ (b : Bool). if b then value (cell.Int (pos n)) else beyond) (lt-ltb n (2 ^ 63) h)
 
-pub action_stored : (owner stored : List ℕ) (tree : Statement) → IsStatement tree → bytea_of (bytea_text stored) ≡ Some stored →
-    stored_action (rewritten stored tree) ≡ Some (stored_as_action (plain_action owner stored tree))
-action_stored owner stored (statement.Select table (select.Columns items)) h e = refl
-action_stored owner stored (statement.Insert table columns []) h e = absurd h.2
-action_stored owner stored (statement.Insert table columns (row ∷ [])) h e = ap (option_map (λ (cells : List Cell). Action.Adds cells)) (row_stored owner stored row h.2 e)
-action_stored owner stored (statement.Insert table columns (row ∷ more ∷ rows)) h e = absurd h.2
+pub number_plain : (given : List PlainCell) (n : ℕ) → n < 2 ^ 63 → (plain given).read kind.Int64 (operand.Number (pos n)) ≡ value (PlainCell.Public (cell.Int (pos n)))
+number_plain given n h = ap public_read (number_stored n h)
 
-map_more : (rows : List (List PlainCell)) (row : List PlainCell) → stored_rows rows ++ map stored_as row ∷ [] ≡ stored_rows (rows ++ row ∷ [])
-map_more [] row = refl
-map_more (r ∷ rows) row = ap (λ (xs : List (List Cell)). map stored_as r ∷ xs) (map_more rows row)
+pub bytes_stored : (bytes : List ℕ) → ReadsBack bytes → (stored []).read kind.Bytes (operand.Text (stored_text bytes)) ≡ value (cell.Bytes bytes)
+bytes_stored bytes e = ap (text_read kind.Bytes) e
 
-after_stored : (action : Action PlainCell) (rows : List (List PlainCell)) → rows_after (stored_as_action action) (stored_rows rows) ≡ stored_rows (rows_after action rows)
-after_stored (Action.Adds row) rows = map_more rows row
-after_stored (Action.Gives items) rows = refl
+-- ---- the tables then
 
-pub rows_stored : (owner stored : List ℕ) (tree : Statement) (rows : List (List PlainCell)) → IsStatement tree → bytea_of (bytea_text stored) ≡ Some stored →
-    rows_then (stored_action (rewritten stored tree)) (stored_rows rows) ≡ stored_rows (rows_after (plain_action owner stored tree) rows)
-rows_stored owner stored tree rows h e =
-    ap (λ (a : Option (Action Cell)). rows_then a (stored_rows rows)) (action_stored owner stored tree h e) ∙ after_stored (plain_action owner stored tree) rows
+module _ (owner bytes : List ℕ) (e : ReadsBack bytes) where
+  abbrev Stands : Statement → Type 0
+  Stands tree = (rows : List (List PlainCell)) → executed (stored []) (rewritten bytes tree) (stored_tables (notes_with rows)) ≡ stored_tables (plain_executed owner bytes tree (notes_with rows))
+
+  parts_stand : (v : Served) → Fits v → Stands (tree_of v)
+  parts_stand (Served.Selects chosen) h rows =
+      select_executed (stored []) chosen (stored_rows rows) ∙ sym (ap stored_tables (select_executed (plain []) chosen rows))
+  parts_stand (Served.Inserts listed n text) h rows =
+      insert_executed (stored []) listed n (operand.Text (stored_text bytes)) (cell.Int (pos n)) (cell.Bytes bytes) (stored_rows rows) (record { number = number_stored n h; other = bytes_stored bytes e })
+      ∙ ap notes_with (sym (map-append (map stored_as) rows ((PlainCell.Public (cell.Int (pos n)) ∷ PlainCell.Protected owner text bytes ∷ []) ∷ [])))
+      ∙ sym (
+        ap stored_tables
+        (insert_executed (plain (PlainCell.Protected owner text bytes ∷ [])) listed n (operand.Parameter 1) (PlainCell.Public (cell.Int (pos n))) (PlainCell.Protected owner text bytes) rows (record { number = number_plain (PlainCell.Protected owner text bytes ∷ []) n h; other = refl }))
+      )
+
+  pub tables_stored : (tree : Statement) → is_served tree ≡ true → Stands tree
+  tables_stored = by_parts Stands parts_stand
+
+pub tables_stand : (IsStored : List ℕ → List ℕ → List ℕ → Type 0) (owner bytes : List ℕ) (tree : Statement) (tables : List (Table PlainCell)) → is_served tree ≡ true → ReadsBack bytes → AreMeant IsStored tables
+    → executed (stored []) (rewritten bytes tree) (stored_tables tables) ≡ stored_tables (plain_executed owner bytes tree tables)
+tables_stand IsStored owner bytes tree tables is e m =
+    subst (λ (ts : List (Table PlainCell)). executed (stored []) (rewritten bytes tree) (stored_tables ts) ≡ stored_tables (plain_executed owner bytes tree ts)) (sym m.are) (tables_stored owner bytes e tree is m.rows)

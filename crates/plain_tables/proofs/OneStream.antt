@@ -8,7 +8,7 @@ use Rattle.pg_wire.specs.declared.frame.Side.TheVariants as side
 use Rattle.pg_wire.specs.Fronts.{front_kind, front_body}
 use Rattle.pg_wire.proofs.FrameLaws.{one_frame}
 use Rattle.pg_wire.proofs.OneMessage.{one_front}
-use Rattle.sql_profile.specs.declared.statement.Statement.{Statement}
+use Rattle.sql_tree.specs.declared.statement.Statement.{Statement}
 use Rattle.plain_tables.specs.declared.encryption.Encryption.{Encryption}
 use Rattle.plain_tables.specs.declared.encryption.Encryption.TheVariants as encryption
 use Rattle.plain_tables.specs.declared.meaning.Meaning.{Meaning}

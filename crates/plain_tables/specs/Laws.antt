@@ -1,33 +1,38 @@
 -- The laws by which a session over stored tables is one over plaintext tables.
-use Rattle.std.specs.Prelude.{ℕ, ◌≡◌, true, List, [], ◌∷◌, ◌++◌, map, Option, Some}
-use Rattle.std.specs.List.{AllByRecursion}
-use Rattle.sql_profile.specs.declared.statement.Statement.{Statement}
-use Rattle.sql_profile.specs.Tree.{IsStatement}
-use Rattle.table_machine.specs.Machine.{outcome_of, rows_after}
-use Rattle.table_machine.specs.Stored.{bytea_of, bytea_text}
-use Rattle.table_machine.specs.Replies.{messages_of, ready}
-use Rattle.table_machine.specs.Backend.{executed, rows_executed}
+use Rattle.std.specs.Prelude.{ℕ, ◌≡◌, true, List, [], ◌∷◌, ◌++◌, map, Option}
+use Rattle.sql_tree.specs.declared.statement.Statement.{Statement}
+use Rattle.plain_values.specs.Values.{plain, reading}
+use Rattle.acra_base.specs.declared.kind.ValueKind.TheVariants as kind
+use Rattle.table_rows.specs.Tables.{Table, answered, executed, told}
+use Rattle.table_rows.specs.Stored.{stored}
+use Rattle.lab_service.specs.Replies.{messages_of, ready}
 use Rattle.plain_tables.specs.declared.meaning.Meaning.TheVariants as meaning
 use Rattle.plain_tables.specs.Meanings.{has_short_strings, Means}
-use Rattle.plain_tables.specs.Plain.{PlainCell, plain, plain_action}
-use Rattle.plain_tables.specs.Rewritten.{rewritten, protected_of}
-use Rattle.plain_tables.specs.Standing.{stored_rows, IsMeant}
+use Rattle.plain_tables.specs.Served.{is_served, IsServed}
+use Rattle.plain_tables.specs.Notes.{notes_with}
+use Rattle.plain_tables.specs.Plain.{PlainCell}
+use Rattle.plain_tables.specs.Reply.{plain_messages, plain_executed}
+use Rattle.plain_tables.specs.Rewritten.{stored_text, rewritten, protected_of}
+use Rattle.plain_tables.specs.Standing.{stored_tables, AreMeant}
 use Rattle.plain_tables.specs.Shown.{Opens, shown_message}
 
+-- stored bytes whose text form reads back
+abbrev pub ReadsBack : List ℕ → Type 0
+ReadsBack cell = reading kind.Bytes (stored_text cell) ≡ plain cell
+
 -- what the rewritten statement leaves in the stored tables stands for what the statement leaves in the plaintext tables
-abbrev pub RowsStand : Type 0
-RowsStand =
-    (owner cell : List ℕ) (tree : Statement) (rows : List (List PlainCell)) → IsStatement tree → bytea_of (bytea_text cell) ≡ Some cell
-    → rows_executed (rewritten cell tree) (stored_rows rows) ≡ stored_rows (rows_after (plain_action owner cell tree) rows)
+abbrev pub TablesStand : Type 0
+TablesStand =
+    (owner cell : List ℕ) (tree : Statement) (rows : List (List PlainCell)) → is_served tree ≡ true → ReadsBack cell
+    → executed (stored []) (rewritten cell tree) (stored_tables (notes_with rows)) ≡ stored_tables (plain_executed owner cell tree (notes_with rows))
 
 -- the backend's reply to the rewritten statement, shown to the owner of all cells, is the reply of the plaintext tables
 abbrev pub RepliesStand : Type 0
 RepliesStand =
-    (client : List ℕ) (opened : List ℕ → Option (List ℕ)) (cell : List ℕ) (tree : Statement) (rows : List (List PlainCell)) → IsStatement tree
-    → bytea_of (bytea_text cell) ≡ Some cell → AllByRecursion (IsMeant (Opens client opened)) rows
-    → map (shown_message opened (protected_of tree)) (messages_of (executed (rewritten cell tree) (stored_rows rows)) ++ ready ∷ [])
-    ≡ messages_of (outcome_of (plain client) (plain_action client [] tree) rows) ++ ready ∷ []
+    (client : List ℕ) (opened : List ℕ → Option (List ℕ)) (cell : List ℕ) (tree : Statement) (tables : List (Table PlainCell)) → is_served tree ≡ true → ReadsBack cell → AreMeant (Opens client opened) tables
+    → map (shown_message opened (protected_of tree)) (messages_of (rewritten cell tree) (told (answered (stored []) (rewritten cell tree) (stored_tables tables))) ++ ready ∷ [])
+    ≡ plain_messages client tree tables ++ ready ∷ []
 
--- a statement that a text asks is one that can be sent on
+-- a statement that a text asks is served
 abbrev pub ServedIsStatement : Type 0
-ServedIsStatement = (text : List ℕ) (tree : Statement) → Means text (meaning.Serves tree) → IsStatement tree × (has_short_strings tree ≡ true)
+ServedIsStatement = (text : List ℕ) (tree : Statement) → Means text (meaning.Serves tree) → IsServed tree × (has_short_strings tree ≡ true)

@@ -1,3 +1,4 @@
+pub mod Notes
 pub mod Served
 pub mod Meanings
 pub mod Requests

@@ -1,20 +1,18 @@
 -- What a text asks.
-use Rattle.std.specs.Prelude.{ℕ, ◌≡◌, ◌^◌, nat_le, Bool, true, false, if◌then◌else◌, List, length, Option, Some, None, Ok, Err}
+use Rattle.std.specs.Prelude.{ℕ, ◌≡◌, ◌^◌, ◌&&◌, nat_le, Bool, true, false, if◌then◌else◌, List, length, Ok, Err}
 use Rattle.std.specs.List.{list_all}
-use Rattle.sql_tree.specs.declared.statement.Statement as any_statement
-use Rattle.sql_tree.specs.declared.statement.Statement.TheVariants as any
+use Rattle.sql_tree.specs.declared.condition.Operand.{Operand}
+use Rattle.sql_tree.specs.declared.condition.Operand.TheVariants as operand
+use Rattle.sql_tree.specs.declared.statement.Statement.{Statement}
+use Rattle.sql_tree.specs.declared.statement.Statement.TheVariants as statement
 use Rattle.sql_parser.specs.declared.refusal.SqlKind.TheVariants as kind
 use Rattle.sql_parser.specs.declared.refusal.SqlRefusal.{SqlRefusal}
 use Rattle.sql_parser.specs.Outcome.{Outcome, IsOutcome}
-use Rattle.sql_profile.specs.declared.statement.Operand.{Operand}
-use Rattle.sql_profile.specs.declared.statement.Operand.TheVariants as operand
-use Rattle.sql_profile.specs.declared.statement.Statement.{Statement}
-use Rattle.sql_profile.specs.declared.statement.Statement.TheVariants as statement
 use Rattle.plain_tables.specs.declared.meaning.Meaning.{Meaning}
 use Rattle.plain_tables.specs.declared.meaning.Meaning.TheVariants as meaning
 use Rattle.plain_tables.specs.declared.refusal.Refusal.{Refusal}
 use Rattle.plain_tables.specs.declared.refusal.Refusal.TheVariants as why
-use Rattle.plain_tables.specs.Served.{narrow}
+use Rattle.plain_tables.specs.Served.{is_served}
 
 -- a text has at most 2^20 bytes, a string 2^18
 abbrev pub text_limit : ℕ
@@ -25,12 +23,12 @@ string_limit = 2 ^ 18
 
 abbrev pub is_short_value : Operand → Bool
 is_short_value (operand.Text text) = nat_le (length text) string_limit
-is_short_value (operand.Number n) = true
+is_short_value value = true
 
--- each string is within its limit
+-- each written string is within its limit
 abbrev pub has_short_strings : Statement → Bool
-has_short_strings (statement.Select table items) = true
 has_short_strings (statement.Insert table columns rows) = list_all (λ (row : List Operand). list_all is_short_value row) rows
+has_short_strings tree = true
 
 -- why a text is refused that spells no statement
 abbrev pub refusal_of : SqlRefusal → Refusal
@@ -41,17 +39,16 @@ refusal_of r = elim (r.kind) [
   | kind.TooDeep ↦ why.TooDeep
 ]
 
-abbrev pub is_nothing : any_statement.Statement → Bool
-is_nothing any.Empty = true
+abbrev pub is_nothing : Statement → Bool
+is_nothing statement.Empty = true
 is_nothing tree = false
 
 -- a statement is served where it is of this stage, and its strings are short
-abbrev pub meaning_served : Option Statement → Meaning
-meaning_served None = meaning.Refused why.NotServed
-meaning_served (Some tree) = if has_short_strings tree then meaning.Serves tree else meaning.Refused why.NotServed
+abbrev pub meaning_served : Statement → Meaning
+meaning_served tree = if is_served tree && has_short_strings tree then meaning.Serves tree else meaning.Refused why.NotServed
 
 abbrev pub meaning_of : Outcome → Meaning
-meaning_of (Ok tree) = if is_nothing tree then meaning.Nothing else meaning_served (narrow tree)
+meaning_of (Ok tree) = if is_nothing tree then meaning.Nothing else meaning_served tree
 meaning_of (Err r) = meaning.Refused (refusal_of r)
 
 -- what the text asks

@@ -2,7 +2,7 @@
 use Rattle.std.specs.Prelude.{ℕ, List, ◌++◌, codes}
 use Rattle.std.specs.Fmt.{decimal}
 use Rattle.pg_wire.specs.declared.back.Back.{Back}
-use Rattle.table_machine.specs.Replies.{error_of}
+use Rattle.lab_service.specs.Replies.{error_of}
 use Rattle.plain_tables.specs.declared.refusal.Refusal.{Refusal}
 use Rattle.plain_tables.specs.declared.refusal.Refusal.TheVariants as why
 

@@ -7,7 +7,7 @@ use Rattle.pg_wire.specs.declared.front.Front.TheVariants as fronts
 use Rattle.pg_wire.specs.declared.frame.Side.TheVariants as side
 use Rattle.pg_wire.specs.Frames.{IsFrame}
 use Rattle.pg_wire.specs.Fronts.{IsText, str, IsFront, front_body, front_frame}
-use Rattle.sql_profile.specs.declared.statement.Statement.{Statement}
+use Rattle.sql_tree.specs.declared.statement.Statement.{Statement}
 use Rattle.plain_tables.specs.declared.encryption.Encryption.{Encryption}
 use Rattle.plain_tables.specs.declared.encryption.Encryption.TheVariants as encryption
 use Rattle.plain_tables.specs.declared.meaning.Meaning.{Meaning}

@@ -1,19 +1,50 @@
--- How a message of the backend is shown: a protected column as text, and its cells opened.
-use Rattle.std.specs.Prelude.{ℕ, ◌≡◌, negsuc, Bool, if◌then◌else◌, List, [], ◌∷◌, Option, Some, None}
+-- What a client is shown: a protected column is described as text, its cells are opened.
+use Rattle.std.specs.Prelude.{ℕ, ◌≡◌, negsuc, nat_eq, Bool, if◌then◌else◌, List, [], ◌∷◌, map, Option, Some, None}
+use Rattle.std.specs.Cmp.Lexicographic.{pointwise}
+use Rattle.acra_base.specs.declared.kind.ValueKind.TheVariants as kind
 use Rattle.pg_wire.specs.declared.back.Field.{Field}
 use Rattle.pg_wire.specs.declared.back.Back.{Back}
 use Rattle.pg_wire.specs.declared.back.Back.TheVariants as backs
-use Rattle.table_machine.specs.Stored.{bytea_text}
-
--- described as text
-abbrev pub as_text : Field → Field
-as_text f = record f { kind = 25; size = negsuc 0 }
+use Rattle.table_rows.specs.declared.table.OutColumn.{OutColumn}
+use Rattle.table_rows.specs.declared.table.Outcome.{Outcome}
+use Rattle.table_rows.specs.declared.table.Outcome.TheVariants as outcome
+use Rattle.table_rows.specs.Stored.{spelled}
+use Rattle.table_rows.specs.Tables.{Answer}
+use Rattle.plain_tables.specs.Plain.{PlainCell}
+use Rattle.plain_tables.specs.Rewritten.{stored_text}
 
 -- a change of the items at the protected places
 abbrev pub where_protected : {A : Type 0} → (A → A) → List Bool → List A → List A
 where_protected change [] items = items
 where_protected change (p ∷ ps) [] = []
 where_protected change (p ∷ ps) (item ∷ items) = (if p then change item else item) ∷ where_protected change ps items
+
+-- ---- an answer of the plaintext tables
+
+-- the owner is shown the plaintext, another one the stored bytes
+abbrev pub shown : List ℕ → OutColumn → PlainCell → Option (List ℕ)
+shown client column (PlainCell.Public c) = spelled column.kind c
+shown client column (PlainCell.Protected owner plain kept) = Some (if pointwise nat_eq client owner then plain else stored_text kept)
+
+abbrev pub shown_row : List ℕ → List OutColumn → List PlainCell → List (Option (List ℕ))
+shown_row client [] cells = []
+shown_row client (column ∷ columns) [] = []
+shown_row client (column ∷ columns) (c ∷ cells) = shown client column c ∷ shown_row client columns cells
+
+abbrev pub text_column : OutColumn → OutColumn
+text_column column = record column { kind = kind.Str }
+
+-- what a client is told, where these columns are protected
+abbrev pub told_to : List ℕ → List Bool → Answer PlainCell → Outcome
+told_to client protected (Answer.Rows columns rows) = outcome.Rows (where_protected text_column protected columns) (map (shown_row client columns) rows)
+told_to client protected (Answer.Count n) = outcome.Count n
+told_to client protected (Answer.Fault f) = outcome.Fault f
+
+-- ---- a message of the backend
+
+-- described as text
+abbrev pub as_text : Field → Field
+as_text f = record f { kind = 25; size = negsuc 0 }
 
 abbrev pub described : List Bool → List Field → List Field
 described ps fields = where_protected as_text ps fields
@@ -39,4 +70,4 @@ module _ (opened : List ℕ → Option (List ℕ)) where
 -- the client's own cell, whose stored bytes open to its plaintext
 pub record Opens (client : List ℕ) (opened : List ℕ → Option (List ℕ)) (owner plain stored : List ℕ) : Type 0 where
   pub owned : owner ≡ client
-  pub opens : opened (bytea_text stored) ≡ Some plain
+  pub opens : opened (stored_text stored) ≡ Some plain

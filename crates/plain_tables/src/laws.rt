@@ -2,12 +2,12 @@ ghost use Rattle.std.specs.Prelude.{◌≡◌, ◌++◌, ℕ, List};
 ghost use Rattle.pg_wire.specs.declared.frame.MessageFault.{MessageFault};
 ghost use Rattle.plain_tables.specs.Requests.{Phase, Request, NoRequest, Splits};
 ghost use Rattle.plain_tables.specs.BadMessages.{IsBad, IsCut};
-ghost use Rattle.plain_tables.specs.Laws.{RowsStand, RepliesStand, ServedIsStatement};
+ghost use Rattle.plain_tables.specs.Laws.{TablesStand, RepliesStand, ServedIsStatement};
 ghost use Rattle.plain_tables.specs.Meanings.{OneMeaning};
 
 /// Stored tables still stand for the plaintext tables after a statement.
 pub fn tables_still_stand()
-    ensures { RowsStand }
+    ensures { TablesStand }
 {}
 
 /// What the owner is shown of the stored tables is what the plaintext tables reply.

@@ -1,5 +1,5 @@
 use crate::refusal::Refusal;
-use sql_profile::Statement;
+use sql_tree::Statement;
 
 /// What a text asks.
 #[derive(Debug, Drop)]

@@ -1,9 +1,10 @@
 use Rattle.lab_session.proofs.AnswerLaws.{plan_sends, plan_answered}
+use Rattle.lab_session.specs.Session.{awaits_startup}
 use Rattle.lab_session.proofs.answering.answer_leased.Goals as goal
 
 pub forward-requires-clause-sendable : goal.forward-requires-clause-sendable
 forward-requires-clause-sendable g c =
-    plan_sends c.args.key.now c.args.random.now c.plan_for.new.random c.args.tree c.in-Ok.plan c.args.backend.now.stream.opening c.in-Ok.ensures c.requires.can
+    plan_sends c.args.key.now c.args.random.now c.plan_for.new.random c.args.tree c.in-Ok.plan (awaits_startup c.args.backend.now) c.in-Ok.ensures c.requires.can
 
 pub returns-in-Ok-clause-gives : goal.returns-in-Ok-clause-gives
 returns-in-Ok-clause-gives g c s text rests e =

@@ -5,7 +5,7 @@ use Rattle.keystore.specs.Rings.{view_of}
 use Rattle.keystore.specs.declared.keys.Lease.{Lease}
 use Rattle.plain_tables.specs.Requests.{Request}
 use Rattle.lab_session.specs.Leases.{needs_lease}
-use Rattle.lab_session.specs.Session.{Rests}
+use Rattle.lab_session.specs.Session.{awaits_startup, Rests}
 use Rattle.lab_session.specs.Answering.{AnswerGives}
 use Rattle.lab_session.specs.declared.said.Said.TheVariants as said
 use Rattle.lab_session.proofs.Leased.{lent_key, lease_released, serves_by, serves_unleased}
@@ -15,15 +15,15 @@ pub returns-then-not-needs_lease-clause-gives : goal.returns-then-not-needs_leas
 returns-then-not-needs_lease-clause-gives g c key s text lends rests e =
     let none : needs_lease c.args.tree ≡ false = search rules in
     let a = c.answer_bare.ensures.gives key (view_of c.args.ring.now c.args.who.now) s text lends.opens rests in
-    serves_unleased key c.args.backend.now.stream.opening s text (said.Asks c.args.tree) (said.Asks c.args.tree) c.answer_bare.result c.args.random.now c.args.ring.now c.args.backend.now c.answer_bare.new.backend (g.K.Sink.held c.args.output.now) (g.K.Sink.held c.answer_bare.new.output) refl none
+    serves_unleased key (awaits_startup c.args.backend.now) s text (said.Asks c.args.tree) (said.Asks c.args.tree) c.answer_bare.result c.args.random.now c.args.ring.now c.args.backend.now c.answer_bare.new.backend (g.K.Sink.held c.args.output.now) (g.K.Sink.held c.answer_bare.new.output) refl none
     (
-    subst (λ (x : ChaCha). AnswerGives key c.args.backend.now.stream.opening s (Request.Asks text c.args.tree) c.answer_bare.result x c.answer_bare.new.backend (g.K.Sink.held c.args.output.now) (g.K.Sink.held c.answer_bare.new.output)) (sym e) a
+    subst (λ (x : ChaCha). AnswerGives key (awaits_startup c.args.backend.now) s (Request.Asks text c.args.tree) c.answer_bare.result x c.answer_bare.new.backend (g.K.Sink.held c.args.output.now) (g.K.Sink.held c.answer_bare.new.output)) (sym e) a
     )
 
 pub returns-in-Ok-clause-gives : goal.returns-in-Ok-clause-gives
 returns-in-Ok-clause-gives g c key s text lends rests e =
     let ring = c.args.ring.now in
-    let opening = c.args.backend.now.stream.opening in
+    let opening = awaits_startup c.args.backend.now in
     let leased : needs_lease c.args.tree ≡ true = search rules in
     let currents = c.as_slice.ensures ∙ ap (λ (l : Lease). l.currents) c.in-Ok.ensures.lease ∙ lent_key ring c.args.who.now key lends in
     let same : c.index-as_slice-0.result ≡ key = c.index-as_slice-0.is ∙ ap (λ (keys : List Key). get_or keys 0 c.index-as_slice-0.result) currents in

@@ -22,7 +22,7 @@ session-init g c =
         k.0,
         [],
         k.1,
-        starts k.0 c.args.random.now (g.S.Source.left c.args.input.now) (g.K.Sink.held c.args.output.now) c.args.backend.now c.new-framer.result c.requires.empty c.new-framer.ensures,
+        starts k.0 c.args.random.now (g.S.Source.left c.args.input.now) (g.K.Sink.held c.args.output.now) c.args.backend.now c.new-framer.result c.requires.tables c.requires.new c.new-framer.ensures,
         sym (after_none c.args.ring.now),
       );
       within = omega arith;

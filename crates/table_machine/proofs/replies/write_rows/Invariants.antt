@@ -1,8 +1,0 @@
-use Rattle.std.proofs.Common.{◌≡◌, ◌++◌, map, take}
-use Rattle.std.specs.List.{flat_map}
-use Rattle.pg_wire.specs.declared.back.Back.TheVariants as backs
-use Rattle.pg_wire.specs.Backs.{back_frame}
-use Rattle.table_machine.proofs.replies.write_rows.Given as goal
-
-abbrev pub invariant-rows : goal.invariant-rows
-invariant-rows l = l.out.items ≡ l.initial.out.items ++ flat_map back_frame (map (λ row. backs.Cells row) (take l.row-index l.rows))

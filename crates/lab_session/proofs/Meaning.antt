@@ -1,6 +1,5 @@
 -- What a text asks, by what parsing it told.
-use Rattle.std.proofs.Common.{◌≡◌, ℕ, List, Result, Ok, Err, sym, ap, subst, ◌∙◌}
-use Rattle.std.specs.Prelude.{IfOk}
+use Rattle.std.proofs.Common.{◌≡◌, ℕ, List, Err, sym, ap, subst, ◌∙◌}
 use Rattle.sql_parser.specs.declared.refusal.SqlRefusal.{SqlRefusal}
 use Rattle.sql_parser.specs.declared.refusal.ParseFault.{ParseFault}
 use Rattle.sql_parser.specs.declared.refusal.ParseFault.TheVariants as fault
@@ -10,9 +9,8 @@ use Rattle.plain_tables.specs.declared.meaning.Meaning.TheVariants as meaning
 use Rattle.plain_tables.specs.declared.refusal.Refusal.{Refusal}
 use Rattle.plain_tables.specs.Meanings.{text_limit, refusal_of, meaning_of, Means}
 
-pub meant : (E : Type 0) (text : List ℕ) (outcome : Outcome) (result : Result Meaning E) → IsOutcome text text_limit outcome → IfOk result (λ what. what ≡ meaning_of outcome) → IfOk result (Means text)
-meant E text outcome (Ok what) is e = record { outcome = outcome; is = is; means = sym e }
-meant E text outcome (Err error) is e = tt
+pub meant : (text : List ℕ) (outcome : Outcome) (what : Meaning) → IsOutcome text text_limit outcome → what ≡ meaning_of outcome → Means text what
+meant text outcome what is e = record { outcome = outcome; is = is; means = sym e }
 
 pub meant_refused : (text : List ℕ) (r : SqlRefusal) (cause : Refusal) → IsOutcome text text_limit (Err r) → cause ≡ refusal_of r → Means text (meaning.Refused cause)
 meant_refused text r cause is e = record { outcome = Err r; is = is; means = ap (λ (x : Refusal). meaning.Refused x) (sym e) }

@@ -1,4 +1,5 @@
-ghost use Rattle.std.specs.Prelude.{◌≡◌, ◌≢◌, ℕ, OnErr, OnOk};
+ghost use Rattle.std.specs.Prelude.{◌≡◌, ◌≢◌, ◌↔◌, ℕ, IfOk, OnErr, OnOk, if◌then◌else◌, slice_get, true};
+ghost use Rattle.table_rows.specs.Reordered.{CanReorder, reordered};
 ghost use Rattle.lab_service.specs.Backend.{ExecuteGives, session_of};
 ghost use Rattle.lab_service.specs.Sessions.{new_session, session_fed};
 
@@ -67,5 +68,18 @@ impl LabBackend {
         answer_request(self.alloc, &mut self.tables, session, request, &mut reply)?;
         out.extend_from_slice(&reply)?;
         Ok(true)
+    }
+
+    /// Brings the rows of the table of this number into the order of these old places, which count from 0; false,
+    /// and nothing changes, where there is no such table or the places are no permutation of its rows. Without
+    /// memory all stays as it was.
+    pub fn reorder(&mut self, table: u16, places: &[u32]) -> Result<bool, NoMemory>
+        ensures exact { IfOk result (λ done. (done ≡ true) ↔ CanReorder places.now (slice_get self.old.tables table)) }
+        ensures ok { IfOk result (λ done. self.new.tables ≡ (if done then reordered table places.now self.old.tables else self.old.tables)) }
+        ensures err { OnErr result (self.new.tables ≡ self.old.tables) }
+        // The sessions stay.
+        ensures sessions { self.new.sessions ≡ self.old.sessions }
+    {
+        self.tables.reorder(table, places)
     }
 }

@@ -37,17 +37,17 @@ pub broken_found : (earlier : List Cell) (key : Cell) (keys : List Cell) (why : 
 broken_found earlier key keys why e = found (is_null key) (list_any (λ c. are_equal (compare key c)) earlier) (broken_stored (earlier ++ key ∷ []) keys) why e
 
 -- what a key that stands tells
-record Stands (earlier : List Cell) (key : Cell) (keys : List Cell) : Type 0 where
-  some : is_null key ≡ false
-  new : list_any (λ c. are_equal (compare key c)) earlier ≡ false
-  rest : broken_stored (earlier ++ key ∷ []) keys ≡ None
+pub record Stands (earlier : List Cell) (key : Cell) (keys : List Cell) : Type 0 where
+  pub some : is_null key ≡ false
+  pub new : list_any (λ c. are_equal (compare key c)) earlier ≡ false
+  pub rest : broken_stored (earlier ++ key ∷ []) keys ≡ None
 
 parts : (a b : Bool) (rest : Option BrokenKey) → cond a (Some broken.Null) (cond b (Some broken.Twice) rest) ≡ None → (a ≡ false) × (b ≡ false) × (rest ≡ None)
 parts true b rest e = cc
 parts false true rest e = cc
 parts false false rest e = (refl, refl, e)
 
-stands : (earlier : List Cell) (key : Cell) (keys : List Cell) → broken_stored earlier (key ∷ keys) ≡ None → Stands earlier key keys
+pub stands : (earlier : List Cell) (key : Cell) (keys : List Cell) → broken_stored earlier (key ∷ keys) ≡ None → Stands earlier key keys
 stands earlier key keys e =
     let p = parts (is_null key) (list_any (λ c. are_equal (compare key c)) earlier) (broken_stored (earlier ++ key ∷ []) keys) e in
     record { some = p.0; new = p.1; rest = p.2 }

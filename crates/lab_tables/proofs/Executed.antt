@@ -109,7 +109,7 @@ map_set view [] k x = refl
 map_set view (y ∷ xs) zero x = refl
 map_set view (y ∷ xs) (suc k) x = ap (λ w. view y ∷ w) (map_set view xs k x)
 
-set_same : {X : Type 0} (xs : List X) (k : ℕ) (x : X) → slice_get xs k ≡ Some x → slice_set xs k x ≡ xs
+pub set_same : {X : Type 0} (xs : List X) (k : ℕ) (x : X) → slice_get xs k ≡ Some x → slice_set xs k x ≡ xs
 set_same [] k x e = refl
 set_same (y ∷ xs) zero x e = let same : y ≡ x = cc in ap (λ w. w ∷ xs) (sym same)
 set_same (y ∷ xs) (suc k) x e = ap (λ w. y ∷ w) (set_same xs k x e)
@@ -122,7 +122,7 @@ hold_at (x ∷ defs) [] k def r all d e = cc
 hold_at (x ∷ defs) (y ∷ rows) zero def r all d e = let a : x ≡ def = cc in let b : y ≡ r = cc in subst (λ w. KeyHolds w r) a (subst (λ w. KeyHolds x w) b all.0)
 hold_at (x ∷ defs) (y ∷ rows) (suc k) def r all d e = hold_at defs rows k def r all.1 d e
 
-all_set : (defs : List TableDef) (rows : List Rows) (k : ℕ) (def : TableDef) (new : Rows) → AllHold (joined defs rows) → slice_get defs k ≡ Some def → KeyHolds def new → AllHold (joined defs (slice_set rows k new))
+pub all_set : (defs : List TableDef) (rows : List Rows) (k : ℕ) (def : TableDef) (new : Rows) → AllHold (joined defs rows) → slice_get defs k ≡ Some def → KeyHolds def new → AllHold (joined defs (slice_set rows k new))
 all_set [] rows k def new all d h = tt
 all_set (x ∷ defs) [] k def new all d h = all
 all_set (x ∷ defs) (y ∷ rows) zero def new all d h = let a : x ≡ def = cc in (subst (λ w. KeyHolds w new) (sym a) h, all.1)

@@ -7,3 +7,6 @@ pub mod Selected
 pub mod Keyed
 pub mod Updated
 pub mod Executed
+pub mod Permuted
+pub mod Unequal
+pub mod Rearranged

@@ -3,9 +3,12 @@
 
 mod changes;
 mod keys;
+mod laws;
 mod queries;
+mod reordering;
 mod tables;
 
+pub use laws::key_is_exact;
 pub use tables::Tables;
 
 #[cfg(test)]

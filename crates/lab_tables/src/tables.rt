@@ -1,18 +1,21 @@
-ghost use Rattle.std.specs.Prelude.{◌≡◌, ◌≤◌, ◌<◌, ◌+◌, ◌∷◌, [], List, max, IfOk, OnErr, OnOk, length, map, true, Option, Some};
+ghost use Rattle.std.specs.Prelude.{◌≡◌, ◌↔◌, ◌≤◌, ◌<◌, ◌+◌, ◌∷◌, [], List, max, IfOk, OnErr, OnOk, length, map, true, Option, Some, slice_get, if◌then◌else◌};
 ghost use Rattle.sql_tree.specs.WellFormed.{is_grammatical};
 ghost use Rattle.table_rows.specs.Columns.{place};
 ghost use Rattle.table_rows.specs.declared.table.TableDef.{TableDef};
 ghost use Rattle.table_rows.specs.Faults.{fault, first_unread, places_in};
+ghost use Rattle.table_rows.specs.Reordered.{CanReorder, reordered};
 ghost use Rattle.table_rows.specs.Stored.{stored};
 ghost use Rattle.table_rows.specs.Tables as spec;
 ghost use Rattle.table_rows.specs.Tables.{answered, executed, performed, table_named};
 ghost use Rattle.std.specs.Option.{option_copied};
 ghost use Rattle.lab_tables.specs.Changing.{KeyHolds};
+ghost use Rattle.lab_tables.specs.Differing.{AllDiffer};
 ghost use Rattle.lab_tables.specs.Doing.{IsDone, Tells};
 ghost use Rattle.lab_tables.specs.Shelves.{AllHold, AreTables, IsTable, empty_table, is_def, joined};
 
 use crate::changes::{delete, insert, update};
 use crate::queries::{Query, select};
+use crate::reordering::reorder;
 use acra_base::{Name, NoMemory, Sequence};
 use sql_tree::{Operand, Statement};
 use std::alloc::Global;
@@ -197,6 +200,30 @@ fn exec_on(
     ))
 }
 
+/// Brings the rows of a table into another order.
+fn reorder_on(
+    alloc: Global,
+    defs: &[TableDef],
+    rows: &mut Vec<Vec<Sequence<Cell>>>,
+    table: usize,
+    places: &[u32],
+) -> Result<bool, NoMemory>
+    requires tables { AreTables defs.now }
+    requires hold { AllHold (joined defs.now (map (λ v. v.items) rows.old.items)) }
+    requires few { length rows.old.items ≤ length defs.now }
+    ensures exact { IfOk result (λ done. (done ≡ true) ↔ CanReorder places.now (slice_get (joined defs.now (map (λ v. v.items) rows.old.items)) table)) }
+    ensures ok { IfOk result (λ done. joined defs.now (map (λ v. v.items) rows.new.items) ≡ (if done then reordered table places.now (joined defs.now (map (λ v. v.items) rows.old.items)) else joined defs.now (map (λ v. v.items) rows.old.items))) }
+    ensures err { OnErr result (joined defs.now (map (λ v. v.items) rows.new.items) ≡ joined defs.now (map (λ v. v.items) rows.old.items)) }
+    ensures hold { AllHold (joined defs.now (map (λ v. v.items) rows.new.items)) }
+    ensures few { length rows.new.items ≤ length defs.now }
+{
+    if table >= defs.len() {
+        return Ok(false);
+    }
+    make_rows(alloc, rows, table)?;
+    reorder(alloc, &mut rows[table], places)
+}
+
 impl Tables {
     /// Tables of these definitions, without rows. It takes no memory.
     pub fn new(alloc: Global, defs: Vec<TableDef>) -> Tables
@@ -216,17 +243,31 @@ impl Tables {
         requires { is_grammatical statement.now ≡ true }
         ensures ok { IfOk result (λ outcome. (outcome ≡ spec.told (answered (stored values.now) statement.now self.old)) × (self.new ≡ executed (stored values.now) statement.now self.old)) }
         ensures err { OnErr result (self.new ≡ self.old) }
+        // No key is NULL, and no two of a table are equal.
+        ensures keys { AllDiffer self.new }
     {
+        let alloc = self.alloc;
         let Some(name) = table_of(statement) else {
             return Ok(Outcome::Count(0));
         };
-        exec_on(
+        exec_on(alloc, &self.defs, &mut self.rows, name, statement, values)
+    }
+
+    /// Brings the rows of the table of this number into the order of these old places, which count from 0; false,
+    /// and nothing changes, where there is no such table or the places are no permutation of its rows. Without
+    /// memory the tables stay. It takes time and room in proportion to the number of the rows.
+    pub fn reorder(&mut self, table: u16, places: &[u32]) -> Result<bool, NoMemory>
+        ensures exact { IfOk result (λ done. (done ≡ true) ↔ CanReorder places.now (slice_get self.old table)) }
+        ensures ok { IfOk result (λ done. self.new ≡ (if done then reordered table places.now self.old else self.old)) }
+        ensures err { OnErr result (self.new ≡ self.old) }
+        ensures keys { AllDiffer self.new }
+    {
+        reorder_on(
             self.alloc,
             &self.defs,
             &mut self.rows,
-            name,
-            statement,
-            values,
+            table as usize,
+            places,
         )
     }
 }

@@ -8,3 +8,4 @@ pub mod Carry
 pub mod Faults
 pub mod Tables
 pub mod Reading
+pub mod Reordered

@@ -97,11 +97,12 @@ fn narrow_row(alloc: Global, values: &[AnyOperand]) -> Result<Option<Sequence<Op
 {
     match values {
         [AnyOperand::Number(number), AnyOperand::Text(text)] => {
-            if !is_number(*number) {
+            let number = number.get();
+            if !is_number(number) {
                 return Ok(None);
             }
             let mut row = Sequence::new(alloc);
-            row.push(Operand::Number(*number))?;
+            row.push(Operand::Number(number))?;
             row.push(Operand::Text(Bytes::copied(alloc, text.as_slice())?))?;
             Ok(Some(row))
         }

@@ -7,7 +7,7 @@ ghost use Rattle.lab_session.specs.Runs.{cell_for, drawn_for};
 use acra_base::{Bytes, Name, NoMemory, Sequence, SureRandom};
 use acra_block::{CellKind, OwnerKey, seal_cell};
 use acra_crypto::Aes256Gcm;
-use sql_tree::{Item, Items, Operand, Statement};
+use sql_tree::{Item, Items, Operand, Statement, Whole};
 use std::alloc::Global;
 
 /// Whether an item of a SELECT is the protected column.
@@ -91,7 +91,7 @@ fn rewritten_value(alloc: Global, value: &Operand, cell: &[u8]) -> Result<Operan
 {
     match value {
         Operand::Text(_) => Ok(Operand::Text(stored_text(alloc, cell)?)),
-        Operand::Number(number) => Ok(Operand::Number(*number)),
+        Operand::Number(number) => Ok(Operand::Number(Whole::new(number.get()))),
         Operand::NullValue => Ok(Operand::NullValue),
         Operand::Parameter(number) => Ok(Operand::Parameter(*number)),
         Operand::Column(name) => Ok(Operand::Column(copied_name(alloc, name)?)),

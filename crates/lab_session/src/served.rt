@@ -80,7 +80,7 @@ fn is_row(values: &[Operand]) -> bool
     ensures { result ≡ is_row values.now }
 {
     match values {
-        [Operand::Number(number), Operand::Text(_)] => is_number(*number),
+        [Operand::Number(number), Operand::Text(_)] => is_number(number.get()),
         _ => false,
     }
 }

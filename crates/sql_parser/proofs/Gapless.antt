@@ -30,10 +30,6 @@ has_more : (k : ℕ) (placed : List Placed) (i : ℕ) (x : Placed) → i < lengt
     → has k (numbers_of (drop i placed)) ≡ (has k (number_of x.token) || has k (numbers_of (drop (i + 1) placed)))
 has_more k placed i x lt is = ap (has k) (numbers_more placed i x lt is) ∙ list_any-append (nat_eq k) (number_of x.token) (numbers_of (drop (i + 1) placed))
 
-pub has_step : (k : ℕ) (placed : List Placed) (i : ℕ) (x : Placed) → i < length placed → x ≡ get_or placed i x → (r : Bool) → r ≡ has k (number_of x.token)
-    → has k (numbers_of (drop i placed)) ≡ (r || has k (numbers_of (drop (i + 1) placed)))
-has_step k placed i x lt is r e = has_more k placed i x lt is ∙ ap (λ b. b || has k (numbers_of (drop (i + 1) placed))) (sym e)
-
 pub mark_step : (k : ℕ) (placed : List Placed) (i : ℕ) (x : Placed) → i < length placed → x ≡ get_or placed i x → (before after : Bool) → after ≡ (before || has k (number_of x.token))
     → (before || has k (numbers_of (drop i placed))) ≡ (after || has k (numbers_of (drop (i + 1) placed)))
 mark_step k placed i x lt is before after e =

@@ -25,10 +25,11 @@ bound_is : (n : ℕ) (b : Bool) (e : nat_lt n (2 ^ 63) ≡ b) → n < 2 ^ 63 →
 bound_is n true e h = (record { number = n; below = ltb-true n (2 ^ 63) e }, refl, refl)
 bound_is n false e h = let yes = lt-ltb n (2 ^ 63) h in cc
 
-pub bound_taken : (x : Token) (n : ℕ) (ts new : List Token) → ts ≡ x ∷ rest_of ts → x ≡ t.Number n → n < 2 ^ 63 → new ≡ rest_of ts → (s : Bound) × (n ≡ s.number) × Reads (one look_bound) ts (Ok (s, new))
-bound_taken x n ts new e f h g =
-    let b = bound_is n (nat_lt n (2 ^ 63)) refl h in
-    (b.0, b.1, taken look_bound b.0 x ts new e (ap look_bound f ∙ b.2) g)
+pub bound_taken : (x : Token) (n v : ℕ) (ts new : List Token) → ts ≡ x ∷ rest_of ts → x ≡ t.Number n → v ≡ n → v < 2 ^ 63 → new ≡ rest_of ts
+    → (s : Bound) × (v ≡ s.number) × Reads (one look_bound) ts (Ok (s, new))
+bound_taken x n v ts new e f same h g =
+    let b = bound_is v (nat_lt v (2 ^ 63)) refl h in
+    (b.0, b.1, taken look_bound b.0 x ts new e (ap look_bound (f ∙ ap t.Number (sym same)) ∙ b.2) g)
 
 -- the word of a call
 call_name : (word : List ℕ) (x : Token) (ts new : List Token) → ts ≡ x ∷ rest_of ts → called word x ≡ true → new ≡ rest_of ts

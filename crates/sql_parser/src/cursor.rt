@@ -244,7 +244,7 @@ impl<'a> Cursor<'a> {
                     ..
                 },
                 ..
-            ] => *number,
+            ] => number.get(),
             _ => return Err(Stop::Syntax),
         };
         self.skip();
@@ -272,11 +272,12 @@ impl<'a> Cursor<'a> {
         let Token::Number(number) = token else {
             return Err(Stop::Syntax);
         };
-        if *number >= 1 << 63 {
+        let number = number.get();
+        if number >= 1 << 63 {
             return Err(Stop::Syntax);
         }
         self.skip();
-        Ok(*number as u64)
+        Ok(number as u64)
     }
 
     /// This very number.
@@ -286,7 +287,7 @@ impl<'a> Cursor<'a> {
         let Some(Token::Number(number)) = self.first() else {
             return Err(Stop::Syntax);
         };
-        if *number != wanted {
+        if number.get() != wanted {
             return Err(Stop::Syntax);
         }
         self.skip();

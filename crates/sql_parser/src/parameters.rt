@@ -8,24 +8,22 @@ use acra_base::NoMemory;
 use sql_tokens::{Placed, Token};
 use std::alloc::Global;
 
-fn is_zero(token: &Token) -> bool
-    ensures { result ≡ list_any (nat_eq 0) (number_of token.now) }
-{
-    match token {
-        Token::Parameter(number) => *number == 0,
-        _ => false,
-    }
+/// What the numbers of parameters reach from and to.
+struct Reach {
+    /// Whether 0 is among them.
+    zero: bool,
+    /// The highest, or 0 where there is none.
+    highest: u16,
 }
 
-fn has_zero(tokens: &[Placed]) -> bool
-    ensures { result ≡ list_any (nat_eq 0) (numbers (tokens_of tokens.now)) }
+// Whether 0 was found, or is the token's number.
+fn finds_zero(found: bool, token: &Token) -> bool
+    ensures { result ≡ (found || list_any (nat_eq 0) (number_of token.now)) }
 {
-    'tokens: for placed in tokens {
-        if is_zero(&placed.token) {
-            return true;
-        }
+    match token {
+        Token::Parameter(number) => found || *number == 0,
+        _ => found,
     }
-    false
 }
 
 // The token's number, if it is higher.
@@ -38,14 +36,17 @@ fn raised(highest: u16, token: &Token) -> u16
     }
 }
 
-fn highest_of(tokens: &[Placed]) -> u16
-    ensures { result ≡ most (numbers (tokens_of tokens.now)) }
+fn reach_of(tokens: &[Placed]) -> Reach
+    ensures zero { result.zero ≡ list_any (nat_eq 0) (numbers (tokens_of tokens.now)) }
+    ensures highest { result.highest ≡ most (numbers (tokens_of tokens.now)) }
 {
+    let mut zero = false;
     let mut highest = 0;
     'tokens: for placed in tokens {
+        zero = finds_zero(zero, &placed.token);
         highest = raised(highest, &placed.token);
     }
-    highest
+    Reach { zero, highest }
 }
 
 // Marks the token's number, if it has a mark.
@@ -79,10 +80,10 @@ fn are_marked(marks: &[bool]) -> bool
 pub(crate) fn are_gapless(alloc: Global, tokens: &[Placed]) -> Result<bool, NoMemory>
     ensures { IfOk result (λ gapless. IsTrue gapless ↔ IsGapless (numbers (tokens_of tokens.now))) }
 {
-    if has_zero(tokens) {
+    let Reach { zero, highest } = reach_of(tokens);
+    if zero {
         return Ok(false);
     }
-    let highest = highest_of(tokens);
     if highest == 0 {
         return Ok(true);
     }

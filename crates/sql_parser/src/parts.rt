@@ -12,7 +12,7 @@ use crate::cursor::Cursor;
 use crate::stop::Stop;
 use acra_base::{Name, Sequence};
 use sql_tokens::{Keyword, Sign};
-use sql_tree::Operand;
+use sql_tree::{Operand, Whole};
 use std::alloc::Global;
 
 /// The column that begins with a name, which is the table's where a dot follows.
@@ -50,7 +50,7 @@ pub(crate) fn read_number(cursor: &mut Cursor<'_>) -> Result<Operand, Stop>
     ensures { Gives (λ n. operand.Number (pos n)) productions.number cursor.old result cursor.new }
 {
     let number = cursor.number()?;
-    Ok(Operand::Number(number as i128))
+    Ok(Operand::Number(Whole::new(number as i128)))
 }
 
 /// A number behind a minus.
@@ -58,7 +58,7 @@ pub(crate) fn read_negated(cursor: &mut Cursor<'_>) -> Result<Operand, Stop>
     ensures { Gives (λ n. operand.Number (neg_ℤ (pos n))) productions.number cursor.old result cursor.new }
 {
     let number = cursor.number()?;
-    Ok(Operand::Number(-(number as i128)))
+    Ok(Operand::Number(Whole::new(-(number as i128))))
 }
 
 fn read_null(cursor: &mut Cursor<'_>) -> Result<Operand, Stop>

@@ -14,6 +14,7 @@ ghost use Rattle.sql_tokens.specs.Steps as steps;
 
 use crate::class::{Class, class_of};
 use crate::keyword::reserved_word;
+use crate::number::Number;
 use crate::runs::{Run, folded_word, is_text, number_of, parameter_of};
 use crate::sign::{sign_of_one, sign_of_two};
 use crate::token::Token;
@@ -128,7 +129,7 @@ impl<'a> Cursor<'a> {
     {
         let digits = self.take_run(Run::Digits);
         match number_of(digits) {
-            Some(number) => Front::Token(Token::Number(number)),
+            Some(number) => Front::Token(Token::Number(Number::new(number))),
             None => Front::Bad,
         }
     }

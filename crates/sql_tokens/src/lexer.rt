@@ -1,4 +1,4 @@
-ghost use Rattle.std.specs.Prelude.{◌≡◌, ◌<◌, ◌^◌, length, IfOk};
+ghost use Rattle.std.specs.Prelude.{◌≡◌, ◌<◌, ◌^◌, [], length, IfOk};
 ghost use Rattle.sql_tokens.specs.Lexing.{Lexes};
 
 use crate::cursor::{Cursor, Front};
@@ -15,12 +15,24 @@ pub struct Lexed {
     pub fault: Option<u32>,
 }
 
+/// Room is made at once for at most as many tokens.
+const MOST_ROOM: usize = 5 << 17;
+
+/// No tokens, with room for those of a text of so many bytes: five for eight bytes, as in a list of short values. They are
+/// not moved then while the text is read.
+fn room_for(alloc: Global, len: usize) -> Result<Sequence<Placed>, NoMemory>
+    ensures { IfOk result (λ tokens. tokens ≡ []) }
+{
+    let room = (len / 8 * 5).min(MOST_ROOM);
+    Ok(Sequence::from_vec(Vec::with_capacity(alloc, room)?))
+}
+
 /// Reads the tokens of a text, in time linear in its length.
 pub fn lex(alloc: Global, text: &[u8]) -> Result<Lexed, NoMemory>
     requires { length text.now < 2 ^ 32 }
     ensures { IfOk result (λ lexed. Lexes 0 text.now lexed.tokens lexed.fault) }
 {
-    let mut tokens = Sequence::new(alloc);
+    let mut tokens = room_for(alloc, text.len())?;
     let mut cursor = Cursor::new(text);
     'pieces: loop {
         let place = (text.len() - cursor.len()) as u32;

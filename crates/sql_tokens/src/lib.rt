@@ -6,6 +6,7 @@ mod cursor;
 mod keyword;
 mod laws;
 mod lexer;
+mod number;
 mod runs;
 mod sign;
 mod token;
@@ -13,6 +14,7 @@ mod token;
 pub use keyword::Keyword;
 pub use laws::one_lexing;
 pub use lexer::{Lexed, lex};
+pub use number::Number;
 pub use sign::Sign;
 pub use token::{Placed, Token};
 

@@ -9,7 +9,10 @@ fn show(alloc: Global, placed: &Placed) -> Result<String, Fail> {
     Ok(match &placed.token {
         Token::Word(word) => format!(in alloc; "{at}:{word:?}")?,
         Token::Sign(sign) => format!(in alloc; "{at}:{sign:?}")?,
-        Token::Number(number) => format!(in alloc; "{at}:{number}")?,
+        Token::Number(number) => {
+            let number = number.get();
+            format!(in alloc; "{at}:{number}")?
+        }
         Token::Parameter(number) => format!(in alloc; "{at}:${number}")?,
         Token::Text(text) => {
             let text = from_utf8(text.as_slice()).map_err(|_| "no text")?;

@@ -1,4 +1,5 @@
 use crate::keyword::Keyword;
+use crate::number::Number;
 use crate::sign::Sign;
 use acra_base::{Bytes, Name};
 
@@ -10,7 +11,7 @@ pub enum Token {
     /// A name: in quotes as it stands there, or else in lower case and no reserved word.
     Name { name: Name, quoted: bool },
     /// A number below 2^127, without a sign.
-    Number(u128),
+    Number(Number),
     /// A string, its quotes undoubled: UTF-8 without a zero byte.
     Text(Bytes),
     /// A parameter's number, 1 to 20,480.

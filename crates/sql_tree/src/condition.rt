@@ -1,3 +1,4 @@
+use crate::whole::Whole;
 use acra_base::{Bytes, Name, Sequence};
 use sqlite_items::{Boxed, Items};
 
@@ -28,7 +29,7 @@ pub enum Operand {
     /// A string, its quotes undoubled: UTF-8 without a zero byte.
     Text(Bytes),
     /// A whole number.
-    Number(i128),
+    Number(Whole),
     /// `NULL`
     NullValue,
     /// A parameter's number, from 1 on.

@@ -5,9 +5,11 @@ mod condition;
 mod laws;
 mod printer;
 mod statement;
+mod whole;
 mod writer;
 
 pub use condition::{Cond, Op, Operand};
 pub use laws::{canonical_text_spells, canonical_tokens_spell};
 pub use printer::print;
 pub use statement::{Item, Items, OrderKey, SetPair, Statement};
+pub use whole::Whole;

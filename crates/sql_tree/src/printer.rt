@@ -40,7 +40,7 @@ impl Canonical for Operand {
             Operand::Column(column) => writer.name(column),
             Operand::Prefix33(column) => write_prefix(column, writer),
             Operand::Text(text) => writer.text(text),
-            Operand::Number(number) => writer.signed(*number),
+            Operand::Number(number) => writer.signed(number.get()),
             Operand::NullValue => writer.word(Keyword::Null),
             Operand::Parameter(number) => writer.parameter(*number),
         }

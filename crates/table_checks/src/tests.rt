@@ -5,7 +5,7 @@ ghost use Rattle.sql_tree.specs.declared.condition.Op.TheVariants as op;
 
 use super::*;
 use acra_base::{Bytes, Name, NoMemory, Sequence, ValueKind};
-use sql_tree::{Cond, Item, Items, Op, Operand, OrderKey, SetPair, Statement};
+use sql_tree::{Cond, Item, Items, Op, Operand, OrderKey, SetPair, Statement, Whole};
 use std::alloc::Global;
 use std::test::Fail;
 use table_rows::{Cell, ColumnDef, LabFault, SortKey, passes};
@@ -66,7 +66,7 @@ fn delete(alloc: Global, cond: Option<Cond>) -> Result<Statement, Fail> {
 fn wide_insert(alloc: Global) -> Result<Statement, Fail> {
     let mut values = Sequence::new(alloc);
     for _ in 0..5 {
-        values.push(Operand::Number(1))?;
+        values.push(Operand::Number(Whole::new(1)))?;
     }
     let mut rows = Sequence::new(alloc);
     rows.push(values)?;
@@ -83,7 +83,7 @@ fn twice(alloc: Global) -> Result<Statement, Fail> {
     for _ in 0..2 {
         sets.push(SetPair {
             column: named(alloc, b"id")?,
-            value: Operand::Number(1),
+            value: Operand::Number(Whole::new(1)),
         })?;
     }
     Ok(Statement::Update {
@@ -111,7 +111,7 @@ fn shape_told(alloc: Global, tree: &Statement) -> Result<Vec<u8>, Fail> {
 #[test]
 fn shape_faults_are_told(rt: HostRuntime) -> Result<(), Fail> {
     let alloc = rt.alloc();
-    let unknown = equal(Operand::Column(named(alloc, b"age")?), Operand::Number(1));
+    let unknown = equal(Operand::Column(named(alloc, b"age")?), Operand::Number(Whole::new(1)));
     let mut cases = Vec::new(alloc);
     cases.push((wide_insert(alloc)?, "42601 lab: wrong count of values"))?;
     cases.push((delete(alloc, unknown)?, "42703 lab: no column \"age\""))?;
@@ -169,7 +169,7 @@ fn compared_told(alloc: Global, column: &[u8], value: Operand) -> Result<Vec<u8>
     let columns = columns(alloc)?;
     let name = named(alloc, column)?;
     let cond = equal(Operand::Column(name), value);
-    match bind_where(alloc, &columns, &cond, &[Operand::Number(7)]) {
+    match bind_where(alloc, &columns, &cond, &[Operand::Number(Whole::new(7))]) {
         Err(BindFault::Fault(fault)) => told(alloc, &fault),
         Err(BindFault::NoMemory) => Err(Fail::from(NoMemory)),
         Ok(filter) => {
@@ -182,7 +182,7 @@ fn compared_told(alloc: Global, column: &[u8], value: Operand) -> Result<Vec<u8>
 #[test]
 fn literals_are_read(rt: HostRuntime) -> Result<(), Fail> {
     let alloc = rt.alloc();
-    let told = compared_told(alloc, b"id", Operand::Number(7))?;
+    let told = compared_told(alloc, b"id", Operand::Number(Whole::new(7)))?;
     assert_eq!(rt; told.as_slice(), b"kept".as_slice());
     let told = compared_told(alloc, b"name", text(alloc, b"ann")?)?;
     assert_eq!(rt; told.as_slice(), b"kept".as_slice());
@@ -210,7 +210,7 @@ fn unread_values_are_told(rt: HostRuntime) -> Result<(), Fail> {
     let told = compared_told(alloc, b"id", text(alloc, b"x")?)?;
     assert_eq!(rt; told.as_slice(), bad.as_bytes());
     let beyond = "22003 lab: value out of range for column \"id\"";
-    let told = compared_told(alloc, b"id", Operand::Number(0x8000_0000))?;
+    let told = compared_told(alloc, b"id", Operand::Number(Whole::new(0x8000_0000)))?;
     assert_eq!(rt; told.as_slice(), beyond.as_bytes());
     Ok(())
 }
@@ -262,7 +262,7 @@ fn pairs(alloc: Global) -> Result<Vec<SetCell>, Fail> {
     let columns = columns(alloc)?;
     let pair = SetPair {
         column: named(alloc, b"size")?,
-        value: Operand::Number(-2),
+        value: Operand::Number(Whole::new(-2)),
     };
     match bind_sets(alloc, &columns, &[pair], &[]) {
         Ok(sets) => Ok(sets),

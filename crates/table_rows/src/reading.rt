@@ -111,7 +111,7 @@ fn read_literal(alloc: Global, kind: ValueKind, value: &Operand) -> Result<Cell,
 {
     match value {
         Operand::Text(text) => read_string(alloc, kind, text.as_slice()),
-        Operand::Number(number) => read_whole(alloc, kind, *number),
+        Operand::Number(number) => read_whole(alloc, kind, number.get()),
         Operand::NullValue => Ok(Cell::Null),
         Operand::Column(_) | Operand::Prefix33(_) | Operand::Parameter(_) => Err(ReadFault::Bad),
     }

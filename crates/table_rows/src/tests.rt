@@ -1,6 +1,6 @@
 use super::*;
 use acra_base::{Bytes, Sequence, ValueKind};
-use sql_tree::{Op, Operand};
+use sql_tree::{Op, Operand, Whole};
 use sqlite_items::{Boxed, Items};
 use std::alloc::Global;
 use std::test::Fail;
@@ -95,7 +95,7 @@ fn bytes_in_hexadecimal(rt: HostRuntime) -> Result<(), Fail> {
 
 #[test]
 fn a_number_for_each_kind(rt: HostRuntime) {
-    let given = [Operand::Number(2147483648)];
+    let given = [Operand::Number(Whole::new(2147483648))];
     let first = Operand::Parameter(1);
     let read = read_cell(rt.alloc(), ValueKind::Int64, &first, &given);
     assert!(rt; reads_number(&read, 2147483648));

@@ -44,8 +44,8 @@ module _ (owner bytes : List ℕ) (e : ReadsBack bytes) where
       insert_executed (stored []) listed n (operand.Text (stored_text bytes)) (cell.Int (pos n)) (cell.Bytes bytes) (stored_rows rows) (record { number = number_stored n h; other = bytes_stored bytes e })
       ∙ ap notes_with (sym (map-append (map stored_as) rows ((PlainCell.Public (cell.Int (pos n)) ∷ PlainCell.Protected owner text bytes ∷ []) ∷ [])))
       ∙ sym (
-        ap stored_tables
-        (insert_executed (plain (PlainCell.Protected owner text bytes ∷ [])) listed n (operand.Parameter 1) (PlainCell.Public (cell.Int (pos n))) (PlainCell.Protected owner text bytes) rows (record { number = number_plain (PlainCell.Protected owner text bytes ∷ []) n h; other = refl }))
+      ap stored_tables
+      (insert_executed (plain (PlainCell.Protected owner text bytes ∷ [])) listed n (operand.Parameter 1) (PlainCell.Public (cell.Int (pos n))) (PlainCell.Protected owner text bytes) rows (record { number = number_plain (PlainCell.Protected owner text bytes ∷ []) n h; other = refl }))
       )
 
   pub tables_stored : (tree : Statement) → is_served tree ≡ true → Stands tree

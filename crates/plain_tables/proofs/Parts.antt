@@ -79,8 +79,7 @@ either_name false b name f g h = (Column.Body, g h)
 item_is : (item : Item) → is_item item ≡ true → (c : Column) × (item ≡ item_of c)
 item_is item h =
     let parts = and_parts (is_column item.column) (is_none item.label) h in
-    let found = either_name (pointwise nat_eq item.column id) (pointwise nat_eq item.column body) item.column (same item.column id) (same item.column body) parts.0 in
-    (
+    let found = either_name (pointwise nat_eq item.column id) (pointwise nat_eq item.column body) item.column (same item.column id) (same item.column body) parts.0 in (
       found.0,
       ap (λ (name : List ℕ). record { column = name; label = item.label }) found.1
           ∙ ap (λ (label : Option (List ℕ)). record { column = name_of found.0; label = label }) (none_is item.label parts.1),

@@ -125,8 +125,8 @@ module _ (client : List ℕ) (opened : List ℕ → Option (List ℕ)) where
         ap (λ (a : Answer Cell). map (shown_message opened []) (messages_of (rewritten bytes tree) (told a) ++ ready ∷ []))
         (insert_answered (stored []) listed n (operand.Text (stored_text bytes)) (cell.Int (pos n)) (cell.Bytes bytes) (stored_rows rows) (record { number = number_stored n h; other = bytes_stored bytes e }))
         ∙ sym (
-          ap (λ (a : Answer PlainCell). messages_of tree (told_to client [] a) ++ ready ∷ [])
-          (insert_answered (plain given) listed n (operand.Parameter 1) (PlainCell.Public (cell.Int (pos n))) (PlainCell.Protected client text []) rows (record { number = number_plain given n h; other = refl }))
+        ap (λ (a : Answer PlainCell). messages_of tree (told_to client [] a) ++ ready ∷ [])
+        (insert_answered (plain given) listed n (operand.Parameter 1) (PlainCell.Public (cell.Int (pos n))) (PlainCell.Protected client text []) rows (record { number = number_plain given n h; other = refl }))
         )
 
     pub reply_shown : (tree : Statement) → is_served tree ≡ true → Replied tree

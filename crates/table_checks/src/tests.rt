@@ -111,7 +111,10 @@ fn shape_told(alloc: Global, tree: &Statement) -> Result<Vec<u8>, Fail> {
 #[test]
 fn shape_faults_are_told(rt: HostRuntime) -> Result<(), Fail> {
     let alloc = rt.alloc();
-    let unknown = equal(Operand::Column(named(alloc, b"age")?), Operand::Number(Whole::new(1)));
+    let unknown = equal(
+        Operand::Column(named(alloc, b"age")?),
+        Operand::Number(Whole::new(1)),
+    );
     let mut cases = Vec::new(alloc);
     cases.push((wide_insert(alloc)?, "42601 lab: wrong count of values"))?;
     cases.push((delete(alloc, unknown)?, "42703 lab: no column \"age\""))?;

@@ -3,6 +3,7 @@ use Rattle.std.proofs.Common.{◌≡◌, lit<, lit≤, ℕ, ◌+◌, ◌*◌, �
 use Rattle.std.specs.List.{list_all, AllByRecursion}
 use Rattle.std.specs.Fmt.{decimal}
 use Rattle.std.specs.Str.{IsAscii}
+use Rattle.std.proofs.lemmas.Bool.{ne_eqb}
 use Rattle.std.proofs.lemmas.Str.{IsUtf8-from_ascii}
 use Rattle.std.proofs.lemmas.Fmt.{length-decimal-le}
 use Rattle.std.proofs.lemmas.List.{length-append}
@@ -21,8 +22,7 @@ use Rattle.sql_tree.specs.Laws.{IsPossible, IsStatement}
 use Rattle.lab_service.proofs.Texts.{ArePositive, IsText-from_positive, IsText-from_test, ArePositive-from_test, ArePositive-decimal}
 use Rattle.plain_tables.specs.Served.{is_served, IsServed}
 use Rattle.plain_tables.specs.Rewritten.{stored_text, rewritten}
-use Rattle.plain_tables.proofs.Parts.{Column, Chosen, Served, Fits, tree_of, by_parts}
-use Rattle.plain_tables.proofs.Executed.{inserting}
+use Rattle.plain_tables.proofs.Parts.{Column, Chosen, Served, Fits, inserting, tree_of, by_parts}
 
 -- ---- stored bytes in text form
 
@@ -68,8 +68,7 @@ stored_positive : (bytes : List ℕ) → IsBytes bytes → ArePositive (stored_t
 stored_positive bytes h = both (92 ∷ 120 ∷ []) (encode_lower bytes) (ArePositive-from_test (92 ∷ 120 ∷ []) refl) (digits_positive bytes h)
 
 not_zero : (n : ℕ) → 0 < n → not (n == 0) ≡ true
-not_zero zero h = absurd (omega arith)
-not_zero (suc n) h = refl
+not_zero n h = ap not (ne_eqb n 0 (λ e. absurd (omega (arith, e, h))))
 
 none_zero : (xs : List ℕ) → AllByRecursion (λ x. 0 < x) xs → list_all (λ b. not (b == 0)) xs ≡ true
 none_zero [] h = refl

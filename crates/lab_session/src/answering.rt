@@ -36,13 +36,13 @@ fn answer_leased<K: Sink>(
     random: &mut SureRandom,
     backend: &mut LabBackend,
     output: &mut K,
-    tree: Statement,
+    tree: &Statement,
 ) -> Result<(), Stop>
     requires view { HasKey view.now key.now }
     requires idle { IsIdle backend.old }
-    requires can { CanAnswer (awaits_startup backend.old) (said_as.Asks tree) }
+    requires can { CanAnswer (awaits_startup backend.old) (said_as.Asks tree.now) }
     ensures gives { (s : State) (text : List ℕ) → Rests key.now backend.old s (awaits_startup backend.old) → random.old ≡ s.coming
-        → AnswerGives key.now (awaits_startup backend.old) s (request_of text (said_as.Asks tree)) result random.new backend.new (K.held output.old) (K.held output.new) }
+        → AnswerGives key.now (awaits_startup backend.old) s (request_of text (said_as.Asks tree.now)) result random.new backend.new (K.held output.old) (K.held output.new) }
     ensures later { K.write_faults output.old ≤ K.write_faults output.new }
     ensures fault { IsErrOf result Stop.WriteFault → Rose (K.write_faults output.old) (K.write_faults output.new) }
     ensures no_read { IsErrOf result Stop.ReadFault → ⊥ }
@@ -84,19 +84,19 @@ fn answer_statement<K: Sink>(
     random: &mut SureRandom,
     backend: &mut LabBackend,
     output: &mut K,
-    tree: Statement,
+    tree: &Statement,
 ) -> Result<(), Stop>
     requires lends { (key : Key) × Lends ring.old who.now key }
     requires idle { IsIdle backend.old }
-    requires can { CanAnswer (awaits_startup backend.old) (said_as.Asks tree) }
+    requires can { CanAnswer (awaits_startup backend.old) (said_as.Asks tree.now) }
     ensures gives { (key : Key) (s : State) (text : List ℕ) → Lends ring.old who.now key → Rests key backend.old s (awaits_startup backend.old) → random.old ≡ s.coming
-        → ServeGives key (awaits_startup backend.old) s (request_of text (said_as.Asks tree)) result random.new ring.old ring.new backend.old backend.new (K.held output.old) (K.held output.new) }
+        → ServeGives key (awaits_startup backend.old) s (request_of text (said_as.Asks tree.now)) result random.new ring.old ring.new backend.old backend.new (K.held output.old) (K.held output.new) }
     ensures later { K.write_faults output.old ≤ K.write_faults output.new }
     ensures fault { IsErrOf result Stop.WriteFault → Rose (K.write_faults output.old) (K.write_faults output.new) }
     ensures no_read { IsErrOf result Stop.ReadFault → ⊥ }
 {
-    if !needs_lease(&tree) {
-        return answer_bare(alloc, who, backend, output, &tree);
+    if !needs_lease(tree) {
+        return answer_bare(alloc, who, backend, output, tree);
     }
     match lend(ring, who) {
         Err(stop) => Err(stop),
@@ -147,7 +147,7 @@ pub fn answer<K: Sink>(
             let request = Front::Startup { params };
             forward(alloc, &no_keys(alloc, who), backend, output, &request, &[])
         }
-        Said::Asks(tree) => answer_statement(alloc, ring, who, random, backend, output, tree),
+        Said::Asks(tree) => answer_statement(alloc, ring, who, random, backend, output, &tree),
         Said::Empties => answer_nothing(alloc, output),
         Said::Refused(cause) => refuse(alloc, cause, output),
     }

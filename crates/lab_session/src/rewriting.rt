@@ -1,6 +1,6 @@
 ghost use Rattle.std.specs.Prelude.{◌≡◌, map, IfOk, OnOk, option_map, true};
 ghost use Rattle.plain_tables.specs.Rewritten.{stored_text, rewritten_value, rewritten, is_protected, protected_items, protected_of, written, written_rows, written_values};
-ghost use Rattle.hex.specs.Hex.{IsBytes};
+ghost use Rattle.sql_tree.specs.declared.statement.Statement.TheVariants as statement;
 ghost use Rattle.plain_tables.specs.Meanings.{has_short_strings};
 ghost use Rattle.lab_session.specs.Runs.{cell_for, drawn_for};
 
@@ -127,27 +127,50 @@ fn rewritten_rows(
     Ok(new)
 }
 
-// The statement with this cell in the place of its string.
-fn rewritten(alloc: Global, tree: Statement, cell: &[u8]) -> Result<Statement, NoMemory>
-    ensures ok { IfOk result (λ new. new ≡ rewritten cell.now tree) }
-    ensures bytes { IsBytes cell.now }
+fn copied_list(alloc: Global, names: &[Name]) -> Result<Sequence<Name>, NoMemory>
+    ensures { IfOk result (λ copy. copy ≡ names.now) }
 {
-    match tree {
-        Statement::Insert {
-            table,
-            columns,
-            rows,
-        } => Ok(Statement::Insert {
-            table,
-            columns,
-            rows: rewritten_rows(alloc, rows.as_slice(), cell)?,
-        }),
-        other => Ok(other),
+    let mut copy = Sequence::new(alloc);
+    'names: for name in names {
+        copy.push(copied_name(alloc, name)?)?;
+    }
+    Ok(copy)
+}
+
+fn copied_columns(
+    alloc: Global,
+    columns: &Option<Sequence<Name>>,
+) -> Result<Option<Sequence<Name>>, NoMemory>
+    ensures { IfOk result (λ copy. copy ≡ columns.now) }
+{
+    match columns {
+        Some(names) => Ok(Some(copied_list(alloc, names.as_slice())?)),
+        None => Ok(None),
     }
 }
 
-// The cell of a written string, with the next 56 bytes that are drawn; none for no string.
-fn cell_for(
+/// An INSERT with this cell in the place of its string.
+pub fn rewritten_insert(
+    alloc: Global,
+    table: &Name,
+    columns: &Option<Sequence<Name>>,
+    rows: &[Sequence<Operand>],
+    cell: &[u8],
+) -> Result<Statement, NoMemory>
+    ensures { IfOk result (λ new. new ≡ rewritten cell.now (statement.Insert table.now columns.now rows.now)) }
+{
+    let table = copied_name(alloc, table)?;
+    let columns = copied_columns(alloc, columns)?;
+    let rows = rewritten_rows(alloc, rows, cell)?;
+    Ok(Statement::Insert {
+        table,
+        columns,
+        rows,
+    })
+}
+
+/// The cell of a written string, with the next 56 bytes that are drawn; none for no string.
+pub fn cell_for(
     alloc: Global,
     key: &OwnerKey,
     random: &mut SureRandom,
@@ -167,20 +190,4 @@ fn cell_for(
             Ok(cell)
         }
     }
-}
-
-/// The statement that is sent on, with a written string sealed.
-pub fn sealed_statement(
-    alloc: Global,
-    key: &OwnerKey,
-    random: &mut SureRandom,
-    tree: Statement,
-) -> Result<Statement, NoMemory>
-    requires { has_short_strings tree ≡ true }
-    ensures sent { IfOk result (λ sent. sent ≡ rewritten (cell_for key.now random.old (written tree)) tree) }
-    ensures random { OnOk result (random.new ≡ drawn_for random.old (written tree)) }
-    ensures bytes { OnOk result (IsBytes (cell_for key.now random.old (written tree))) }
-{
-    let cell = cell_for(alloc, key, random, &tree)?;
-    rewritten(alloc, tree, &cell)
 }

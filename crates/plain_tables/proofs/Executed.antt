@@ -4,15 +4,13 @@ use Rattle.acra_base.specs.declared.kind.ValueKind.TheVariants as kind
 use Rattle.sql_tree.specs.declared.condition.Operand.{Operand}
 use Rattle.sql_tree.specs.declared.condition.Operand.TheVariants as operand
 use Rattle.sql_tree.specs.declared.statement.Items.TheVariants as select
-use Rattle.sql_tree.specs.declared.statement.Statement.{Statement}
-use Rattle.sql_tree.specs.declared.statement.Statement.TheVariants as statement
 use Rattle.table_rows.specs.declared.table.LabFault.{LabFault}
 use Rattle.table_rows.specs.Faults.{fault, or_else, read_fault}
 use Rattle.table_rows.specs.Machine.{Cells, Read, value, cell_read, insert, found, before, item_cells, kept}
 use Rattle.table_rows.specs.Sort.{put, stable_sort}
 use Rattle.table_rows.specs.Tables.{Table, Answer, answered, executed, out_columns, step_unless}
-use Rattle.plain_tables.specs.Notes.{notes, id, body, notes_columns, notes_def, notes_with}
-use Rattle.plain_tables.proofs.Parts.{Column, Chosen, Served, items_of, list_of, tree_of}
+use Rattle.plain_tables.specs.Notes.{id, body, notes_columns, notes_def, notes_with}
+use Rattle.plain_tables.proofs.Parts.{Column, Chosen, Served, items_of, list_of, inserting, tree_of}
 
 module _ {C : Type 0} (cells : Cells C) where
   -- ---- SELECT
@@ -53,10 +51,6 @@ module _ {C : Type 0} (cells : Cells C) where
       ∙ ap (λ (rs : List (List C)). Answer.Rows (out_columns 0 notes_columns (select.Columns (items_of chosen))) (map (item_cells cells notes_columns (items_of chosen)) rs)) (all_found rows)
 
   -- ---- INSERT
-
-  -- an INSERT of a number and another value
-  abbrev pub inserting : Bool → ℕ → Operand → Statement
-  inserting listed n v = statement.Insert notes (list_of listed) ((operand.Number (pos n) ∷ v ∷ []) ∷ [])
 
   -- the cells as which its values are read
   pub record AreRead (n : ℕ) (v : Operand) (a b : C) : Type 0 where

@@ -48,6 +48,10 @@ list_of false = None
 abbrev pub row_of : ℕ → List ℕ → List Operand
 row_of n text = operand.Number (pos n) ∷ operand.Text text ∷ []
 
+-- an INSERT of a number and another value
+abbrev pub inserting : Bool → ℕ → Operand → Statement
+inserting listed n v = statement.Insert notes (list_of listed) ((operand.Number (pos n) ∷ v ∷ []) ∷ [])
+
 abbrev pub tree_of : Served → Statement
 tree_of (Served.Selects chosen) = statement.Select notes (select.Columns (items_of chosen)) None [] None None
 tree_of (Served.Inserts listed n text) = statement.Insert notes (list_of listed) (row_of n text ∷ [])

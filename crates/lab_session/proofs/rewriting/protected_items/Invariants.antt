@@ -1,6 +1,6 @@
 use Rattle.std.proofs.Common.{◌≡◌, map, take}
 use Rattle.plain_tables.specs.Rewritten.{is_protected}
-use Rattle.lab_session.proofs.rewriting.protected_columns.Given as goal
+use Rattle.lab_session.proofs.rewriting.protected_items.Given as goal
 
 abbrev pub invariant-items : goal.invariant-items
 invariant-items l = l.protected.items ≡ map is_protected (take l.item-index l.item-items)

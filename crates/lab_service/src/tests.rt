@@ -1,13 +1,21 @@
 ghost use Rattle.std.specs.Prelude.{◌≡◌, ◌<◌, true, length, IfOk};
 ghost use Rattle.acra_base.specs.Names.{is_name};
+ghost use Rattle.sql_tree.specs.WellFormed.{is_grammatical};
 ghost use Rattle.lab_tables.specs.Shelves.{IsTable};
 
+mod faults;
+mod plain;
+mod random;
+
 use super::*;
+use crate::connection::TEXT_LIMIT;
 use acra_base::{Bytes, Name, NoMemory, Sequence, ValueKind};
 use lab_tables::Tables;
+use sql_parser::parse;
+use sql_tree::Statement;
 use std::alloc::Global;
 use std::test::Fail;
-use table_rows::{ColumnDef, TableDef};
+use table_rows::{ColumnDef, Outcome, TableDef};
 
 /// A startup of the user acra.
 const STARTUP: &[u8] = b"\x00\x00\x00\x13\x00\x03\x00\x00user\x00acra\x00\x00";
@@ -204,5 +212,67 @@ fn executes_the_statements_of_the_profile(rt: HostRuntime) -> Result<(), Fail> {
         want.extend_from_slice(b"Z\x00\x00\x00\x05I")?;
         assert_eq!(rt; got.as_slice(), want.as_slice());
     }
+    Ok(())
+}
+
+fn exec(tables: &mut Tables, statement: &Statement) -> Result<Outcome, Fail>
+    requires { is_grammatical statement.now ≡ true }
+{
+    Ok(tables.exec(statement, &[])?)
+}
+
+/// What a text gives. One that is no statement fails the test.
+fn executed(alloc: Global, tables: &mut Tables, text: &[u8]) -> Result<Outcome, Fail> {
+    let statement = parse(alloc, text, TEXT_LIMIT)?;
+    exec(tables, &statement)
+}
+
+/// The table customers with the columns id, int8 and the key, and mail, bytea.
+fn customers(alloc: Global) -> Result<TableDef, Fail>
+    ensures { IfOk result IsTable }
+{
+    let mut columns = Sequence::new(alloc);
+    columns.push(column(alloc, b"id", ValueKind::Int64)?)?;
+    columns.push(column(alloc, b"mail", ValueKind::Bytes)?)?;
+    let bytes = Bytes::copied(alloc, b"customers")?;
+    Ok(TableDef {
+        name: Name::new(bytes),
+        columns,
+        key: Some(0),
+    })
+}
+
+/// The reply to a SELECT that gives the ids 3, 1, 2. Written out by hand after the message formats of PostgreSQL's
+/// manual.
+const REORDERED: &[u8] =
+    b"T\x00\x00\x00\x1b\x00\x01id\x00\x00\x00\x40\x00\x00\x01\x00\x00\x00\x14\x00\x08\xff\xff\xff\xff\x00\x00\
+    D\x00\x00\x00\x0b\x00\x01\x00\x00\x00\x013\
+    D\x00\x00\x00\x0b\x00\x01\x00\x00\x00\x011\
+    D\x00\x00\x00\x0b\x00\x01\x00\x00\x00\x012\
+    C\x00\x00\x00\x0dSELECT 3\x00\
+    Z\x00\x00\x00\x05I";
+
+#[test]
+fn reorders_rows(rt: HostRuntime) -> Result<(), Fail> {
+    let alloc = rt.alloc();
+    let mut defs = Vec::new(alloc);
+    defs.push(customers(alloc)?)?;
+    let mut lab = LabBackend::new(alloc, Tables::new(alloc, defs));
+    let _ = replies(alloc, &mut lab, 1, STARTUP)?;
+    // A table that has no rows yet, and one that there is not.
+    assert!(rt; lab.reorder(0, &[])?);
+    assert!(rt; !lab.reorder(1, &[])?);
+    let _ = reply(
+        alloc,
+        &mut lab,
+        b"INSERT INTO customers (id) VALUES (1), (2), (3)",
+    )?;
+    assert!(rt; lab.reorder(0, &[2, 0, 1])?);
+    let refused: [&[u32]; 4] = [&[0, 0, 1], &[2, 0], &[0, 1, 3], &[]];
+    for places in refused {
+        assert!(rt; !lab.reorder(0, places)?);
+    }
+    let got = reply(alloc, &mut lab, b"SELECT id FROM customers")?;
+    assert_eq!(rt; got.as_slice(), REORDERED);
     Ok(())
 }

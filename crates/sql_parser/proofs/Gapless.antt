@@ -4,7 +4,7 @@ use Rattle.std.specs.Prelude.{IsTrue, nat_eq, ◌↔◌, Contains}
 use Rattle.std.specs.List.{list_any, list_all}
 use Rattle.std.proofs.Math.Bool.{or_assoc, or-true, or-false}
 use Rattle.std.proofs.lemmas.Bool.{eqb-true, eq-eqb, cases_Bool, or_cases, both_ways, and_from, cases_lt}
-use Rattle.std.proofs.lemmas.List.{drop_more, drop_all, get_or-drop, length-drop, take_rest, take_at, get_or-replicate, length-replicate}
+use Rattle.std.proofs.lemmas.List.{get_or-drop, length-drop, take_rest, take_at, get_or-replicate, length-replicate}
 use Rattle.std.proofs.lemmas.List.Folds.{list_any-append, Any-from_list_any, list_any_at, list_all_at}
 use Rattle.sql_tokens.specs.declared.token.Placed.{Placed}
 use Rattle.sql_tree.specs.Shapes.{most}
@@ -16,43 +16,6 @@ numbers_of placed = numbers (tokens_of placed)
 
 abbrev pub has : ℕ → List ℕ → Bool
 has k used = list_any (nat_eq k) used
-
--- ---- one token more
-
-pub numbers_more : (placed : List Placed) (i : ℕ) (x : Placed) → i < length placed → x ≡ get_or placed i x → numbers_of (drop i placed) ≡ number_of x.token ++ numbers_of (drop (i + 1) placed)
-numbers_more placed i x lt is = ap numbers_of (drop_more placed i x lt) ∙ ap (λ (y : Placed). number_of y.token ++ numbers_of (drop (i + 1) placed)) (sym is)
-
-pub numbers_end : (placed : List Placed) (i : ℕ) → length placed ≤ i → numbers_of (drop i placed) ≡ []
-numbers_end placed i le = ap numbers_of (drop_all i placed le)
-
--- the rest has it where the token or what follows does
-has_more : (k : ℕ) (placed : List Placed) (i : ℕ) (x : Placed) → i < length placed → x ≡ get_or placed i x
-    → has k (numbers_of (drop i placed)) ≡ (has k (number_of x.token) || has k (numbers_of (drop (i + 1) placed)))
-has_more k placed i x lt is = ap (has k) (numbers_more placed i x lt is) ∙ list_any-append (nat_eq k) (number_of x.token) (numbers_of (drop (i + 1) placed))
-
-pub mark_step : (k : ℕ) (placed : List Placed) (i : ℕ) (x : Placed) → i < length placed → x ≡ get_or placed i x → (before after : Bool) → after ≡ (before || has k (number_of x.token))
-    → (before || has k (numbers_of (drop i placed))) ≡ (after || has k (numbers_of (drop (i + 1) placed)))
-mark_step k placed i x lt is before after e =
-    ap (λ b. before || b) (has_more k placed i x lt is)
-    ∙ sym (or_assoc before (has k (number_of x.token)) (has k (numbers_of (drop (i + 1) placed))))
-    ∙ ap (λ b. b || has k (numbers_of (drop (i + 1) placed))) (sym e)
-
-pub mark_end : (k : ℕ) (placed : List Placed) (i : ℕ) → length placed ≤ i → (b : Bool) → (b || has k (numbers_of (drop i placed))) ≡ b
-mark_end k placed i le b = ap (λ xs. b || has k xs) (numbers_end placed i le) ∙ or-false b
-
-most-append : (xs ys : List ℕ) → most (xs ++ ys) ≡ max (most xs) (most ys)
-most-append [] ys = omega arith
-most-append (x ∷ xs) ys = let e = most-append xs ys in omega (arith, e)
-
-pub most_step : (placed : List Placed) (i : ℕ) (x : Placed) → i < length placed → x ≡ get_or placed i x → (before after : ℕ) → after ≡ max before (most (number_of x.token))
-    → max before (most (numbers_of (drop i placed))) ≡ max after (most (numbers_of (drop (i + 1) placed)))
-most_step placed i x lt is before after e =
-    let more : most (numbers_of (drop i placed)) ≡ max (most (number_of x.token)) (most (numbers_of (drop (i + 1) placed))) =
-    ap most (numbers_more placed i x lt is) ∙ most-append (number_of x.token) (numbers_of (drop (i + 1) placed)) in
-    omega (arith, more, e)
-
-pub most_end : (placed : List Placed) (i : ℕ) → length placed ≤ i → (n : ℕ) → max n (most (numbers_of (drop i placed))) ≡ n
-most_end placed i le n = let none = ap most (numbers_end placed i le) in omega (arith, none)
 
 -- ---- what a list of numbers has
 

@@ -1,11 +1,14 @@
 -- The token that a cursor takes.
-use Rattle.std.proofs.Common.{◌≡◌, ℕ, ◌<◌, ◌^◌, Bool, true, false, List, ◌∷◌, refl, sym, ap, ◌∙◌, subst}
+use Rattle.std.proofs.Common.{◌≡◌, ℕ, ◌<◌, ◌^◌, Bool, true, false, List, [], ◌∷◌, refl, sym, ap, ◌∙◌, subst}
 use Rattle.std.proofs.lemmas.Bool.{ltb-true, lt-ltb}
 use Rattle.std.specs.Prelude.{Option, Some, Ok, nat_lt, ◌&&◌}
 use Rattle.sql_tokens.specs.declared.sign.Sign.TheVariants as sign
 use Rattle.sql_tokens.specs.declared.token.Token.{Token}
 use Rattle.sql_tokens.specs.declared.token.Token.TheVariants as t
+use Rattle.sql_tokens.specs.declared.token.Placed.{Placed}
+use Rattle.sql_tokens.specs.Seen as seen
 use Rattle.sql_tree.specs.Parts.{Spelled}
+use Rattle.sql_tree.specs.Spelling.{tokens_of}
 use Rattle.sql_tree.specs.Grammar.{Bound}
 use Rattle.sql_parser.specs.Readers.{begins, one}
 use Rattle.sql_parser.specs.Looks.{bound_if, look_bound, look_name, is_call, is_sign}
@@ -30,6 +33,11 @@ pub bound_taken : (x : Token) (n v : ℕ) (ts new : List Token) → ts ≡ x ∷
 bound_taken x n v ts new e f same h g =
     let b = bound_is v (nat_lt v (2 ^ 63)) refl h in
     (b.0, b.1, taken look_bound b.0 x ts new e (ap look_bound (f ∙ ap t.Number (sym same)) ∙ b.2) g)
+
+-- what is left behind the first
+pub rest_tokens : (placed : List Placed) → tokens_of (seen.rest_of placed) ≡ rest_of (tokens_of placed)
+rest_tokens [] = refl
+rest_tokens (p ∷ more) = refl
 
 -- the word of a call
 call_name : (word : List ℕ) (x : Token) (ts new : List Token) → ts ≡ x ∷ rest_of ts → called word x ≡ true → new ≡ rest_of ts

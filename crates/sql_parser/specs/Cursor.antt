@@ -1,6 +1,8 @@
 -- What the calls of a cursor do.
 use Rattle.std.specs.Prelude.{ℕ, ◌≡◌, ◌<◌, ◌^◌, ◌&&◌, Bool, true, false, List, [], ◌∷◌, Option, Some, None, is_some, Ok}
 use Rattle.sql_tokens.specs.declared.sign.Sign.TheVariants as sign
+use Rattle.sql_tokens.specs.declared.slice.TokenRef.{TokenRef}
+use Rattle.sql_tokens.specs.declared.slice.TokenRef.TheVariants as see
 use Rattle.sql_tokens.specs.declared.token.Token.{Token}
 use Rattle.sql_tokens.specs.declared.token.Token.TheVariants as t
 use Rattle.sql_tree.specs.Parts.{Spelled}
@@ -37,6 +39,10 @@ abbrev pub AreSmall : List Token → Type 0
 AreSmall [] = Unit {0}
 AreSmall (t.Number n ∷ more) = (n < 2 ^ 127) × AreSmall more
 AreSmall (_ ∷ more) = AreSmall more
+
+abbrev pub IsSmall : TokenRef → Type 0
+IsSmall (see.Number n) = n < 2 ^ 127
+IsSmall _ = Unit {0}
 
 -- the last of two names
 abbrev pub last_of : List ℕ → Option Spelled → List ℕ

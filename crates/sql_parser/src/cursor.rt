@@ -1,7 +1,8 @@
 //! The tokens that are left, one by one.
 
-ghost use Rattle.std.specs.Prelude.{◌≡◌, ◌∷◌, [], length, ◌<◌, ◌^◌, IfOk, ℕ, List, MatchOption, neg_ℤ, pos, is_some};
+ghost use Rattle.std.specs.Prelude.{◌≡◌, ◌∷◌, [], length, ◌<◌, ◌^◌, IfOk, IfSome, ℕ, List, MatchOption, neg_ℤ, pos, is_some};
 ghost use Rattle.sql_tokens.specs.declared.token.Token.{Token};
+ghost use Rattle.sql_tokens.specs.Seen.{IsSound, seen};
 ghost use Rattle.sql_tree.specs.Spelling.{tokens_of};
 ghost use Rattle.sql_tree.specs.Parts.{Spelled};
 ghost use Rattle.sql_tree.specs.Grammar.{Bound};
@@ -9,11 +10,11 @@ ghost use Rattle.sql_parser.specs.Readers.{begins};
 ghost use Rattle.sql_parser.specs.Reads.{Gives};
 ghost use Rattle.sql_parser.specs.Looks as looks;
 ghost use Rattle.sql_parser.specs.Productions as productions;
-ghost use Rattle.sql_parser.specs.Cursor.{Eats, EatsCall, AreSmall, rest_of, called};
+ghost use Rattle.sql_parser.specs.Cursor.{Eats, EatsCall, AreSmall, IsSmall, rest_of, called};
 
 use crate::stop::Stop;
 use acra_base::{Bytes, Name};
-use sql_tokens::{Keyword, Placed, Sign, Token};
+use sql_tokens::{Keyword, Sign, TokenRef, TokenSlice};
 use sql_tree::Op;
 use std::alloc::Global;
 use std::marker::Model;
@@ -21,7 +22,7 @@ use std::marker::Model;
 /// The tokens that are left.
 #[derive(Drop)]
 pub(crate) struct Cursor<'a> {
-    rest: &'a [Placed],
+    rest: TokenSlice<'a>,
 }
 
 impl<'a> Model for Cursor<'a> {
@@ -32,31 +33,31 @@ impl<'a> Model for Cursor<'a> {
 
     ghost Value = { List Token };
 
-    ghost view = { λ c. tokens_of c.rest.now };
+    ghost view = { λ c. tokens_of c.rest };
 
-    ghost invariant = { λ c. AreSmall (tokens_of c.rest.now) };
+    ghost invariant = { λ c. AreSmall (tokens_of c.rest) };
 }
 
-fn is_word(token: &Token, word: Keyword) -> bool
-    ensures { result ≡ looks.is_word word token.now }
+fn is_word(token: TokenRef<'_>, word: Keyword) -> bool
+    ensures { result ≡ looks.is_word word (seen token.entry) }
 {
     match token {
-        Token::Word(found) => *found as u8 == word as u8,
+        TokenRef::Word(found) => found as u8 == word as u8,
         _ => false,
     }
 }
 
-fn is_sign(token: &Token, sign: Sign) -> bool
-    ensures { result ≡ looks.is_sign sign token.now }
+fn is_sign(token: TokenRef<'_>, sign: Sign) -> bool
+    ensures { result ≡ looks.is_sign sign (seen token.entry) }
 {
     match token {
-        Token::Sign(found) => *found as u8 == sign as u8,
+        TokenRef::Sign(found) => found as u8 == sign as u8,
         _ => false,
     }
 }
 
-fn begins_statement(token: &Token) -> bool
-    ensures { result ≡ productions.begins_body token.now }
+fn begins_statement(token: TokenRef<'_>) -> bool
+    ensures { result ≡ productions.begins_body (seen token.entry) }
 {
     if is_word(token, Keyword::Select) {
         return true;
@@ -73,36 +74,38 @@ fn begins_statement(token: &Token) -> bool
     is_word(token, Keyword::Set)
 }
 
-fn op_of(token: &Token) -> Option<Op>
-    ensures { result ≡ looks.look_op token.now }
+fn op_of(token: TokenRef<'_>) -> Option<Op>
+    ensures { result ≡ looks.look_op (seen token.entry) }
 {
     match token {
-        Token::Sign(Sign::Equal) => Some(Op::Eq),
-        Token::Sign(Sign::NotEqual) => Some(Op::Ne),
-        Token::Sign(Sign::Less) => Some(Op::Lt),
-        Token::Sign(Sign::AtMost) => Some(Op::Le),
-        Token::Sign(Sign::Greater) => Some(Op::Gt),
-        Token::Sign(Sign::AtLeast) => Some(Op::Ge),
+        TokenRef::Sign(Sign::Equal) => Some(Op::Eq),
+        TokenRef::Sign(Sign::NotEqual) => Some(Op::Ne),
+        TokenRef::Sign(Sign::Less) => Some(Op::Lt),
+        TokenRef::Sign(Sign::AtMost) => Some(Op::Le),
+        TokenRef::Sign(Sign::Greater) => Some(Op::Gt),
+        TokenRef::Sign(Sign::AtLeast) => Some(Op::Ge),
         _ => None,
     }
 }
 
-fn is_called(token: &Token, word: &[u8]) -> bool
-    ensures { result ≡ called word.now token.now }
+fn is_called(token: TokenRef<'_>, word: &[u8]) -> bool
+    ensures { result ≡ called word.now (seen token.entry) }
 {
     match token {
-        Token::Name { name, quoted } => !*quoted && name.as_slice() == word,
+        TokenRef::Name { name, quoted } => !quoted && name == word,
         _ => false,
     }
 }
 
 impl<'a> Cursor<'a> {
     /// At the first of these tokens.
-    pub(crate) fn new(tokens: &'a [Placed]) -> Cursor<'a>
+    pub(crate) fn new(tokens: &TokenSlice<'a>) -> Cursor<'a>
         requires { AreSmall (tokens_of tokens.now) }
         ensures { result ≡ tokens_of tokens.now }
     {
-        Cursor { rest: tokens }
+        Cursor {
+            rest: tokens.again(),
+        }
     }
 
     /// How many tokens are left.
@@ -112,21 +115,18 @@ impl<'a> Cursor<'a> {
         self.rest.len()
     }
 
-    fn first(&self) -> Option<&'a Token>
-        ensures { MatchOption result (self.now ≡ []) (λ token. self.now ≡ token.now ∷ rest_of self.now) }
+    fn first(&self) -> Option<TokenRef<'a>>
+        ensures is { MatchOption result (self.now ≡ []) (λ found. self.now ≡ seen found ∷ rest_of self.now) }
+        ensures sound { IfSome result IsSound }
+        ensures small { IfSome result IsSmall }
     {
-        match self.rest {
-            [first, ..] => Some(&first.token),
-            [] => None,
-        }
+        self.rest.first()
     }
 
     fn skip(&mut self)
         ensures { self.new ≡ rest_of self.old }
     {
-        if let [_, rest @ ..] = self.rest {
-            self.rest = rest;
-        }
+        self.rest = self.rest.rest();
     }
 
     /// Whether the first token is the word.
@@ -153,21 +153,21 @@ impl<'a> Cursor<'a> {
     pub(crate) fn is_name(&self) -> bool
         ensures { result ≡ begins looks.is_name self.now }
     {
-        matches!(self.first(), Some(Token::Name { .. }))
+        matches!(self.first(), Some(TokenRef::Name { .. }))
     }
 
     /// Whether the first token is a string.
     pub(crate) fn is_text(&self) -> bool
         ensures { result ≡ begins (λ t. is_some (looks.look_text t)) self.now }
     {
-        matches!(self.first(), Some(Token::Text(_)))
+        matches!(self.first(), Some(TokenRef::Text(_)))
     }
 
     /// Whether the first token is a number.
     pub(crate) fn is_number(&self) -> bool
         ensures { result ≡ begins (λ t. is_some (looks.look_number t)) self.now }
     {
-        matches!(self.first(), Some(Token::Number(_)))
+        matches!(self.first(), Some(TokenRef::Number(_)))
     }
 
     /// Whether the first token is the word of a statement.
@@ -209,10 +209,10 @@ impl<'a> Cursor<'a> {
         let Some(token) = self.first() else {
             return Err(Stop::Syntax);
         };
-        let Token::Name { name, .. } = token else {
+        let TokenRef::Name { name, .. } = token else {
             return Err(Stop::Syntax);
         };
-        let copy = Name::new(Bytes::copied(alloc, name.as_slice())?);
+        let copy = Name::new(Bytes::copied(alloc, name)?);
         self.skip();
         Ok(copy)
     }
@@ -224,10 +224,10 @@ impl<'a> Cursor<'a> {
         let Some(token) = self.first() else {
             return Err(Stop::Syntax);
         };
-        let Token::Text(text) = token else {
+        let TokenRef::Text(text) = token else {
             return Err(Stop::Syntax);
         };
-        let copy = Bytes::copied(alloc, text.as_slice())?;
+        let copy = Bytes::copied(alloc, text)?;
         self.skip();
         Ok(copy)
     }
@@ -237,15 +237,8 @@ impl<'a> Cursor<'a> {
         ensures reads { Gives (λ (n : ℕ). n) productions.number self.old result self.new }
         ensures small { IfOk result (λ n. n < 2 ^ 127) }
     {
-        let number = match self.rest {
-            [
-                Placed {
-                    token: Token::Number(number),
-                    ..
-                },
-                ..
-            ] => number.get(),
-            _ => return Err(Stop::Syntax),
+        let Some(TokenRef::Number(number)) = self.first() else {
+            return Err(Stop::Syntax);
         };
         self.skip();
         Ok(number)
@@ -255,11 +248,11 @@ impl<'a> Cursor<'a> {
     pub(crate) fn parameter(&mut self) -> Result<u16, Stop>
         ensures { Gives (λ (n : ℕ). n) productions.parameter self.old result self.new }
     {
-        let Some(Token::Parameter(number)) = self.first() else {
+        let Some(TokenRef::Parameter(number)) = self.first() else {
             return Err(Stop::Syntax);
         };
         self.skip();
-        Ok(*number)
+        Ok(number)
     }
 
     /// The number that comes, which is below 2^63.
@@ -269,10 +262,9 @@ impl<'a> Cursor<'a> {
         let Some(token) = self.first() else {
             return Err(Stop::Syntax);
         };
-        let Token::Number(number) = token else {
+        let TokenRef::Number(number) = token else {
             return Err(Stop::Syntax);
         };
-        let number = number.get();
         if number >= 1 << 63 {
             return Err(Stop::Syntax);
         }
@@ -284,10 +276,10 @@ impl<'a> Cursor<'a> {
     pub(crate) fn exactly(&mut self, wanted: u128) -> Result<(), Stop>
         ensures { Gives (λ x. x) (productions.exactly wanted) self.old result self.new }
     {
-        let Some(Token::Number(number)) = self.first() else {
+        let Some(TokenRef::Number(number)) = self.first() else {
             return Err(Stop::Syntax);
         };
-        if number.get() != wanted {
+        if number != wanted {
             return Err(Stop::Syntax);
         }
         self.skip();
@@ -348,8 +340,9 @@ impl<'a> Cursor<'a> {
         if !is_called(token, word) {
             return false;
         }
-        let mut ahead = Cursor { rest: self.rest };
-        ahead.skip();
+        let ahead = Cursor {
+            rest: self.rest.rest(),
+        };
         if !ahead.is_sign(Sign::Open) {
             return false;
         }

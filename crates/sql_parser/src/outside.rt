@@ -3,10 +3,11 @@
 ghost use Rattle.std.specs.Prelude.{◌≡◌, nat_eq};
 ghost use Rattle.std.specs.List.{list_any};
 ghost use Rattle.std.specs.Cmp.Lexicographic.{pointwise};
+ghost use Rattle.sql_tokens.specs.Seen.{seen};
 ghost use Rattle.sql_parser.specs.Outside.{outside_words};
 ghost use Rattle.sql_parser.specs.Outside as outside;
 
-use sql_tokens::{Keyword, Placed, Token};
+use sql_tokens::{Keyword, TokenRef, TokenSlice};
 
 // Words that begin such a statement. `values` is one more, and is reserved.
 const OUTSIDE_WORDS: [&str; 43] = [
@@ -67,12 +68,12 @@ fn is_outside_word(name: &[u8]) -> bool
     is_one_of(name, &OUTSIDE_WORDS)
 }
 
-fn is_outside(token: &Token) -> bool
-    ensures { result ≡ outside.is_outside token.now }
+fn is_outside(token: TokenRef<'_>) -> bool
+    ensures { result ≡ outside.is_outside (seen token.entry) }
 {
     match token {
-        Token::Name { name, quoted } => !*quoted && is_outside_word(name.as_slice()),
-        Token::Word(word) => matches!(word, Keyword::Values),
+        TokenRef::Name { name, quoted } => !quoted && is_outside_word(name),
+        TokenRef::Word(word) => matches!(word, Keyword::Values),
         _ => false,
     }
 }
@@ -84,40 +85,47 @@ fn is_settable(name: &[u8]) -> bool
     name == b"application_name".as_slice() || name == b"extra_float_digits".as_slice()
 }
 
-fn sets_other(token: &Token) -> bool
-    ensures { result ≡ outside.sets_other token.now }
+fn sets_other(token: TokenRef<'_>) -> bool
+    ensures { result ≡ outside.sets_other (seen token.entry) }
 {
     match token {
-        Token::Name { name, .. } => !is_settable(name.as_slice()),
-        Token::Word(_) => true,
+        TokenRef::Name { name, .. } => !is_settable(name),
+        TokenRef::Word(_) => true,
         _ => false,
     }
 }
 
-fn is_set(token: &Token) -> bool
-    ensures { result ≡ outside.is_set token.now }
+fn is_set(token: TokenRef<'_>) -> bool
+    ensures { result ≡ outside.is_set (seen token.entry) }
 {
     match token {
-        Token::Word(word) => matches!(word, Keyword::Set),
+        TokenRef::Word(word) => matches!(word, Keyword::Set),
         _ => false,
+    }
+}
+
+/// Where the second token stands, if SET sets another name by it.
+fn set_place(others: &TokenSlice<'_>) -> Option<u32>
+    ensures { result ≡ outside.set_place others.now }
+{
+    match others.first() {
+        Some(second) if sets_other(second) => others.place(),
+        _ => None,
     }
 }
 
 /// Where such a statement's token stands, if the tokens begin one.
-pub(crate) fn outside_place(tokens: &[Placed]) -> Option<u32>
+pub(crate) fn outside_place(tokens: &TokenSlice<'_>) -> Option<u32>
     ensures { result ≡ outside.outside_place tokens.now }
 {
-    let [first, others @ ..] = tokens else {
+    let Some(first) = tokens.first() else {
         return None;
     };
-    if is_outside(&first.token) {
-        return Some(first.place);
+    if is_outside(first) {
+        return tokens.place();
     }
-    if !is_set(&first.token) {
+    if !is_set(first) {
         return None;
     }
-    match others {
-        [second, ..] if sets_other(&second.token) => Some(second.place),
-        _ => None,
-    }
+    set_place(&tokens.rest())
 }

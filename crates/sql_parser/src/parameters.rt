@@ -1,11 +1,12 @@
 ghost use Rattle.std.specs.Prelude.{◌≡◌, ◌<◌, ◌||◌, ℕ, IfOk, IsTrue, length, max, nat_eq, slice_index_or, true, false, ◌↔◌};
 ghost use Rattle.std.specs.List.{list_all, list_any};
+ghost use Rattle.sql_tokens.specs.Seen.{seen};
 ghost use Rattle.sql_tree.specs.Shapes.{most};
 ghost use Rattle.sql_tree.specs.Spelling.{IsGapless, tokens_of};
 ghost use Rattle.sql_parser.specs.Passes.{number_of, numbers};
 
 use acra_base::NoMemory;
-use sql_tokens::{Placed, Token};
+use sql_tokens::{TokenRef, TokenSlice};
 use std::alloc::Global;
 
 /// What the numbers of parameters reach from and to.
@@ -17,44 +18,46 @@ struct Reach {
 }
 
 // Whether 0 was found, or is the token's number.
-fn finds_zero(found: bool, token: &Token) -> bool
-    ensures { result ≡ (found || list_any (nat_eq 0) (number_of token.now)) }
+fn finds_zero(found: bool, token: TokenRef<'_>) -> bool
+    ensures { result ≡ (found || list_any (nat_eq 0) (number_of (seen token.entry))) }
 {
     match token {
-        Token::Parameter(number) => found || *number == 0,
+        TokenRef::Parameter(number) => found || number == 0,
         _ => found,
     }
 }
 
 // The token's number, if it is higher.
-fn raised(highest: u16, token: &Token) -> u16
-    ensures { result ≡ max highest (most (number_of token.now)) }
+fn raised(highest: u16, token: TokenRef<'_>) -> u16
+    ensures { result ≡ max highest (most (number_of (seen token.entry))) }
 {
     match token {
-        Token::Parameter(number) => highest.max(*number),
+        TokenRef::Parameter(number) => highest.max(number),
         _ => highest,
     }
 }
 
-fn reach_of(tokens: &[Placed]) -> Reach
+fn reach_of(tokens: &TokenSlice<'_>) -> Reach
     ensures zero { result.zero ≡ list_any (nat_eq 0) (numbers (tokens_of tokens.now)) }
     ensures highest { result.highest ≡ most (numbers (tokens_of tokens.now)) }
 {
     let mut zero = false;
     let mut highest = 0;
-    'tokens: for placed in tokens {
-        zero = finds_zero(zero, &placed.token);
-        highest = raised(highest, &placed.token);
+    let mut rest = tokens.again();
+    'tokens: while let Some(token) = rest.first() {
+        zero = finds_zero(zero, token);
+        highest = raised(highest, token);
+        rest = rest.rest();
     }
     Reach { zero, highest }
 }
 
 // Marks the token's number, if it has a mark.
-fn mark(marks: &mut [bool], token: &Token)
-    ensures { (k : ℕ) → k < length marks.old → slice_index_or marks.new k false ≡ (slice_index_or marks.old k false || list_any (nat_eq k) (number_of token.now)) }
+fn mark(marks: &mut [bool], token: TokenRef<'_>)
+    ensures { (k : ℕ) → k < length marks.old → slice_index_or marks.new k false ≡ (slice_index_or marks.old k false || list_any (nat_eq k) (number_of (seen token.entry))) }
 {
-    if let Token::Parameter(number) = token {
-        let at = usize::from(*number);
+    if let TokenRef::Parameter(number) = token {
+        let at = usize::from(number);
         if at < marks.len() {
             marks[at] = true;
         }
@@ -62,11 +65,13 @@ fn mark(marks: &mut [bool], token: &Token)
 }
 
 // Marks the number of each parameter.
-fn mark_all(marks: &mut [bool], tokens: &[Placed])
+fn mark_all(marks: &mut [bool], tokens: &TokenSlice<'_>)
     ensures { (k : ℕ) → k < length marks.old → slice_index_or marks.new k false ≡ (slice_index_or marks.old k false || list_any (nat_eq k) (numbers (tokens_of tokens.now))) }
 {
-    'tokens: for placed in tokens {
-        mark(marks, &placed.token);
+    let mut rest = tokens.again();
+    'tokens: while let Some(token) = rest.first() {
+        mark(marks, token);
+        rest = rest.rest();
     }
 }
 
@@ -77,7 +82,7 @@ fn are_marked(marks: &[bool]) -> bool
 }
 
 /// Whether the numbers of the parameters are 1 to some number, without a gap.
-pub(crate) fn are_gapless(alloc: Global, tokens: &[Placed]) -> Result<bool, NoMemory>
+pub(crate) fn are_gapless(alloc: Global, tokens: &TokenSlice<'_>) -> Result<bool, NoMemory>
     ensures { IfOk result (λ gapless. IsTrue gapless ↔ IsGapless (numbers (tokens_of tokens.now))) }
 {
     let Reach { zero, highest } = reach_of(tokens);

@@ -21,7 +21,7 @@ use crate::refusal::{ParseFault, SqlKind, SqlRefusal};
 use crate::statements::read_whole;
 use crate::stop::Stop;
 use acra_base::NoMemory;
-use sql_tokens::{Placed, lex};
+use sql_tokens::{TokenSlice, lex};
 use sql_tree::Statement;
 use std::alloc::Global;
 
@@ -35,12 +35,12 @@ fn refused(kind: SqlKind, place: u32) -> ParseFault
 }
 
 /// Where the first of the tokens that are left stands, or what follows all tokens.
-fn place_at(tokens: &[Placed], left: usize, bad: Option<u32>, end: u32) -> u32
+fn place_at(tokens: &TokenSlice<'_>, left: usize, bad: Option<u32>, end: u32) -> u32
     requires { left ≤ length tokens.now }
     ensures { result ≡ place_after (drop (length tokens.now - left) tokens.now) bad end }
 {
-    if let [first, ..] = &tokens[tokens.len() - left..] {
-        return first.place;
+    if let Some(place) = tokens.skip(tokens.len() - left).place() {
+        return place;
     }
     match bad {
         Some(place) => place,
@@ -50,7 +50,7 @@ fn place_at(tokens: &[Placed], left: usize, bad: Option<u32>, end: u32) -> u32
 
 fn side_conditions_hold(
     alloc: Global,
-    tokens: &[Placed],
+    tokens: &TokenSlice<'_>,
     statement: &Statement,
 ) -> Result<bool, NoMemory>
     ensures { IfOk result (λ holds. IsTrue holds ↔ ((judging.qualifiers_agree statement.now (tokens_of tokens.now) ≡ true) × IsGapless (numbers (tokens_of tokens.now)))) }
@@ -92,7 +92,7 @@ fn judged(kind: Option<SqlKind>, end: u32, statement: Statement) -> Result<State
 /// What becomes of what was read from all tokens.
 fn judge(
     alloc: Global,
-    tokens: &[Placed],
+    tokens: &TokenSlice<'_>,
     end: u32,
     reading: Reading,
 ) -> Result<Statement, ParseFault>
@@ -109,7 +109,7 @@ fn judge(
     }
 }
 
-fn misspelled(tokens: &[Placed], left: usize, bad: Option<u32>, end: u32) -> ParseFault
+fn misspelled(tokens: &TokenSlice<'_>, left: usize, bad: Option<u32>, end: u32) -> ParseFault
     requires { left ≤ length tokens.now }
     ensures { result ≡ fault.Refused (record { place = place_after (drop (length tokens.now - left) tokens.now) bad end; kind = kind.Syntax }) }
 {
@@ -117,7 +117,12 @@ fn misspelled(tokens: &[Placed], left: usize, bad: Option<u32>, end: u32) -> Par
 }
 
 /// The refusal of tokens that are not all read, or behind which no token stands.
-fn refusal_after(tokens: &[Placed], left: usize, bad: Option<u32>, end: u32) -> Option<ParseFault>
+fn refusal_after(
+    tokens: &TokenSlice<'_>,
+    left: usize,
+    bad: Option<u32>,
+    end: u32,
+) -> Option<ParseFault>
     requires { left ≤ length tokens.now }
     ensures { result ≡ judging.refusal_after tokens.now left bad end }
 {
@@ -132,7 +137,7 @@ fn refusal_after(tokens: &[Placed], left: usize, bad: Option<u32>, end: u32) -> 
 
 fn judge_all(
     alloc: Global,
-    tokens: &[Placed],
+    tokens: &TokenSlice<'_>,
     refusal: Option<ParseFault>,
     end: u32,
     reading: Reading,
@@ -150,7 +155,7 @@ fn judge_all(
 #[tactic(none)]
 fn read_tokens(
     alloc: Global,
-    tokens: &[Placed],
+    tokens: &TokenSlice<'_>,
     bad: Option<u32>,
     end: u32,
 ) -> Result<Statement, ParseFault>
@@ -179,9 +184,9 @@ fn read_text(alloc: Global, text: &[u8], limit: u32) -> Result<Statement, ParseF
         return Err(ParseFault::NoMemory);
     };
     let tokens = lexed.tokens.as_slice();
-    match outside_place(tokens) {
+    match outside_place(&tokens) {
         Some(place) => Err(refused(SqlKind::OutsideProfile, place)),
-        None => read_tokens(alloc, tokens, lexed.fault, text.len() as u32),
+        None => read_tokens(alloc, &tokens, lexed.fault, text.len() as u32),
     }
 }
 

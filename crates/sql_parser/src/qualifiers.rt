@@ -4,53 +4,50 @@ ghost use Rattle.std.specs.Prelude.{◌≡◌, not};
 ghost use Rattle.std.specs.List.{list_all};
 ghost use Rattle.std.specs.Prelude.{nat_eq};
 ghost use Rattle.std.specs.Cmp.Lexicographic.{pointwise};
+ghost use Rattle.sql_tokens.specs.Seen.{seen};
 ghost use Rattle.sql_tree.specs.Spelling.{tokens_of};
 ghost use Rattle.sql_parser.specs.Passes.{dot_first, named};
 ghost use Rattle.sql_parser.specs.Judging as judging;
 
-use sql_tokens::{Placed, Sign, Token};
+use sql_tokens::{Sign, TokenRef, TokenSlice};
 use sql_tree::Statement;
 
-fn begins_with_dot(tokens: &[Placed]) -> bool
+fn begins_with_dot(tokens: &TokenSlice<'_>) -> bool
     ensures { result ≡ dot_first (tokens_of tokens.now) }
 {
-    let [first, ..] = tokens else {
-        return false;
-    };
-    match &first.token {
-        Token::Sign(sign) => matches!(sign, Sign::Dot),
+    match tokens.first() {
+        Some(TokenRef::Sign(sign)) => matches!(sign, Sign::Dot),
         _ => false,
     }
 }
 
 /// Whether it is another name than the table's, where a dot follows.
-fn is_another(token: &Token, dotted: bool, table: &[u8]) -> bool
-    ensures { result ≡ not (list_all (λ q. pointwise nat_eq q table.now) (named dotted token.now)) }
+fn is_another(token: TokenRef<'_>, dotted: bool, table: &[u8]) -> bool
+    ensures { result ≡ not (list_all (λ q. pointwise nat_eq q table.now) (named dotted (seen token.entry))) }
 {
     match token {
-        Token::Name { name, .. } => dotted && name.as_slice() != table,
+        TokenRef::Name { name, .. } => dotted && name != table,
         _ => false,
     }
 }
 
-fn agree(tokens: &[Placed], table: &[u8]) -> bool
+fn agree(tokens: &TokenSlice<'_>, table: &[u8]) -> bool
     ensures { result ≡ judging.agree table.now (tokens_of tokens.now) }
 {
-    let mut rest = tokens;
+    let mut rest = tokens.again();
     'tokens: loop {
-        let [first, others @ ..] = rest else {
+        let Some(first) = rest.first() else {
             return true;
         };
-        let dotted = begins_with_dot(others);
-        if is_another(&first.token, dotted, table) {
+        rest = rest.rest();
+        if is_another(first, begins_with_dot(&rest), table) {
             return false;
         }
-        rest = others;
     }
 }
 
 /// Whether each name before a dot is that of the statement's table.
-pub(crate) fn qualifiers_agree(statement: &Statement, tokens: &[Placed]) -> bool
+pub(crate) fn qualifiers_agree(statement: &Statement, tokens: &TokenSlice<'_>) -> bool
     ensures { result ≡ judging.qualifiers_agree statement.now (tokens_of tokens.now) }
 {
     match statement {

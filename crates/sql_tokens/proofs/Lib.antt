@@ -7,3 +7,4 @@ pub mod Fronts
 pub mod Marks
 pub mod Nesting
 pub mod Whole
+pub mod Keeping

@@ -6,3 +6,5 @@ pub mod Tokens
 pub mod Lexing
 pub mod Runs
 pub mod Steps
+pub mod Kept
+pub mod Seen

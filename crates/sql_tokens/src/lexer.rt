@@ -3,14 +3,15 @@ ghost use Rattle.sql_tokens.specs.Lexing.{Lexes};
 
 use crate::cursor::{Cursor, Front};
 use crate::token::Placed;
-use acra_base::{NoMemory, Sequence};
+use crate::tokens::Tokens;
+use acra_base::NoMemory;
 use std::alloc::Global;
 
 /// The tokens of a text.
 #[derive(Debug, Drop)]
 pub struct Lexed {
     /// The tokens, in order: all, or those before the first bytes that are no token.
-    pub tokens: Sequence<Placed>,
+    pub tokens: Tokens,
     /// Where the first bytes that are no token begin.
     pub fault: Option<u32>,
 }
@@ -20,11 +21,10 @@ const MOST_ROOM: usize = 5 << 17;
 
 /// No tokens, with room for those of a text of so many bytes: five for eight bytes, as in a list of short values. They are
 /// not moved then while the text is read.
-fn room_for(alloc: Global, len: usize) -> Result<Sequence<Placed>, NoMemory>
+fn room_for(alloc: Global, len: usize) -> Result<Tokens, NoMemory>
     ensures { IfOk result (λ tokens. tokens ≡ []) }
 {
-    let room = (len / 8 * 5).min(MOST_ROOM);
-    Ok(Sequence::from_vec(Vec::with_capacity(alloc, room)?))
+    Tokens::with_room(alloc, (len / 8 * 5).min(MOST_ROOM))
 }
 
 /// Reads the tokens of a text, in time linear in its length.

@@ -9,14 +9,18 @@ mod lexer;
 mod number;
 mod runs;
 mod sign;
+mod slice;
 mod token;
+mod tokens;
 
 pub use keyword::Keyword;
 pub use laws::one_lexing;
 pub use lexer::{Lexed, lex};
 pub use number::Number;
 pub use sign::Sign;
+pub use slice::{TokenRef, TokenSlice};
 pub use token::{Placed, Token};
+pub use tokens::Tokens;
 
 #[cfg(test)]
 mod tests;

@@ -1,26 +1,22 @@
-use crate::{Lexed, Placed, Token, lex};
+use crate::{Lexed, TokenRef, lex};
 use std::alloc::Global;
 use std::str::from_utf8;
 use std::test::Fail;
 
 /// The token with its place.
-fn show(alloc: Global, placed: &Placed) -> Result<String, Fail> {
-    let at = placed.place;
-    Ok(match &placed.token {
-        Token::Word(word) => format!(in alloc; "{at}:{word:?}")?,
-        Token::Sign(sign) => format!(in alloc; "{at}:{sign:?}")?,
-        Token::Number(number) => {
-            let number = number.get();
-            format!(in alloc; "{at}:{number}")?
-        }
-        Token::Parameter(number) => format!(in alloc; "{at}:${number}")?,
-        Token::Text(text) => {
-            let text = from_utf8(text.as_slice()).map_err(|_| "no text")?;
+fn show(alloc: Global, token: TokenRef<'_>, at: u32) -> Result<String, Fail> {
+    Ok(match token {
+        TokenRef::Word(word) => format!(in alloc; "{at}:{word:?}")?,
+        TokenRef::Sign(sign) => format!(in alloc; "{at}:{sign:?}")?,
+        TokenRef::Number(number) => format!(in alloc; "{at}:{number}")?,
+        TokenRef::Parameter(number) => format!(in alloc; "{at}:${number}")?,
+        TokenRef::Text(text) => {
+            let text = from_utf8(text).map_err(|_| "no text")?;
             format!(in alloc; "{at}:'{text}'")?
         }
-        Token::Name { name, quoted } => {
-            let name = from_utf8(name.as_slice()).map_err(|_| "no name")?;
-            let mark = if *quoted { "\"" } else { "" };
+        TokenRef::Name { name, quoted } => {
+            let name = from_utf8(name).map_err(|_| "no name")?;
+            let mark = if quoted { "\"" } else { "" };
             format!(in alloc; "{at}:{mark}{name}{mark}")?
         }
     })
@@ -29,9 +25,11 @@ fn show(alloc: Global, placed: &Placed) -> Result<String, Fail> {
 /// All tokens with their places, and the place of the fault.
 fn shown(alloc: Global, lexed: &Lexed) -> Result<String, Fail> {
     let mut line = String::new(alloc);
-    for placed in lexed.tokens.as_slice() {
-        line.push_str(show(alloc, placed)?.as_str())?;
+    let mut rest = lexed.tokens.as_slice();
+    while let (Some(token), Some(place)) = (rest.first(), rest.place()) {
+        line.push_str(show(alloc, token, place)?.as_str())?;
         line.push(' ')?;
+        rest = rest.rest();
     }
     if let Some(place) = lexed.fault {
         line.push_str(format!(in alloc; "!{place}")?.as_str())?;

@@ -69,6 +69,7 @@ below_more bytes more k h = omega (arith, h, length-append bytes more)
 fits_more : (bytes more numbers others : List ℕ) (m : Mark) → Fits bytes numbers m → Fits (bytes ++ more) (numbers ++ others) m
 fits_more bytes more numbers others (mark.Word word) h = tt
 fits_more bytes more numbers others (mark.Name start len quoted) h = (within_more bytes more (start + len) h.0, ap is_name (part_more bytes more start len h.0) ∙ h.1)
+fits_more bytes more numbers others (mark.Small n) h = tt
 fits_more bytes more numbers others (mark.Number at) h = below_more numbers others at h
 fits_more bytes more numbers others (mark.Text start len) h = within_more bytes more (start + len) h
 fits_more bytes more numbers others (mark.Parameter n) h = tt
@@ -77,6 +78,7 @@ fits_more bytes more numbers others (mark.Sign sign) h = tt
 token_more : (bytes more numbers others : List ℕ) (m : Mark) → Fits bytes numbers m → token_in (bytes ++ more) (numbers ++ others) m ≡ token_in bytes numbers m
 token_more bytes more numbers others (mark.Word word) h = refl
 token_more bytes more numbers others (mark.Name start len quoted) h = ap (λ (name : List ℕ). t.Name name quoted) (part_more bytes more start len h.0)
+token_more bytes more numbers others (mark.Small n) h = refl
 token_more bytes more numbers others (mark.Number at) h = ap (λ (n : ℕ). t.Number n) (get_or_append_left numbers others 0 at h)
 token_more bytes more numbers others (mark.Text start len) h = ap (λ (text : List ℕ). t.Text text) (part_more bytes more start len h)
 token_more bytes more numbers others (mark.Parameter n) h = refl

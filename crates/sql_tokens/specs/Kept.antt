@@ -20,6 +20,7 @@ module _ (bytes numbers : List ℕ) where
   abbrev pub token_in : Mark → Token
   token_in (mark.Word word) = t.Word word
   token_in (mark.Name start len quoted) = t.Name (part bytes start len) quoted
+  token_in (mark.Small n) = t.Number n
   token_in (mark.Number at) = t.Number (slice_index_or numbers at 0)
   token_in (mark.Text start len) = t.Text (part bytes start len)
   token_in (mark.Parameter n) = t.Parameter n
@@ -35,6 +36,7 @@ module _ (bytes numbers : List ℕ) where
   -- what a mark names is there
   abbrev pub Fits : Mark → Type 0
   Fits (mark.Name start len quoted) = (start + len ≤ length bytes) × (is_name (part bytes start len) ≡ true)
+  Fits (mark.Small n) = Unit {0}
   Fits (mark.Number at) = at < length numbers
   Fits (mark.Text start len) = start + len ≤ length bytes
   Fits (mark.Word word) = Unit {0}

@@ -69,6 +69,7 @@ fn look<'a>(bytes: &'a [u8], numbers: &'a [Number], mark: Mark) -> TokenRef<'a>
             name: part(bytes, start, len),
             quoted,
         },
+        Mark::Small(number) => TokenRef::Number(number as u128),
         Mark::Number(at) => TokenRef::Number(numbers[at as usize].get()),
         Mark::Text { start, len } => TokenRef::Text(part(bytes, start, len)),
         Mark::Parameter(number) => TokenRef::Parameter(number),

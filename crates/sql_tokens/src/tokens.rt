@@ -1,6 +1,7 @@
 //! Tokens, kept in little room.
 
-ghost use Rattle.std.specs.Prelude.{◌≡◌, ◌++◌, ◌∷◌, [], length, IfOk, OnOk, OnErr};
+ghost use Rattle.std.specs.Prelude.{◌≡◌, ◌++◌, ◌∷◌, [], length, List, ℕ, IfOk, OnOk, OnErr};
+ghost use Rattle.sql_tokens.specs.declared.token.Token.TheVariants as t;
 ghost use Rattle.sql_tokens.specs.Kept.{Extends, Fits, token_in};
 
 use crate::keyword::Keyword;
@@ -19,7 +20,9 @@ pub(crate) enum Mark {
     Word(Keyword),
     /// A name: where its bytes begin, and how many they are.
     Name { start: u32, len: u32, quoted: bool },
-    /// The place of a number.
+    /// A number below 2^32.
+    Small(u32),
+    /// The place of another number.
     Number(u32),
     /// A string: where its bytes begin, and how many they are.
     Text { start: u32, len: u32 },
@@ -38,7 +41,7 @@ pub(crate) struct Entry {
     pub(crate) place: u32,
 }
 
-/// The tokens of a text with their places, in order. One takes 16 bytes, and those of its name, string or number.
+/// The tokens of a text with their places, in order. One takes 16 bytes, and those of its name or string, or of a number from 2^32 on.
 #[derive(Debug, Drop)]
 pub struct Tokens {
     entries: Vec<Entry>,
@@ -88,6 +91,19 @@ fn put_number(numbers: &mut Vec<Number>, number: Number) -> Result<u32, NoMemory
     Ok(at)
 }
 
+/// Keeps a number: with its token where it is short, or else with the others.
+fn number_mark(numbers: &mut Vec<Number>, number: Number) -> Result<Mark, NoMemory>
+    ensures numbers { Extends numbers.old.items numbers.new.items }
+    ensures fits { (bytes : List ℕ) → IfOk result (λ mark. Fits bytes numbers.new.items mark) }
+    ensures kept { (bytes : List ℕ) → IfOk result (λ mark. token_in bytes numbers.new.items mark ≡ t.Number number) }
+{
+    if let Ok(small) = u32::try_from(number.get()) {
+        return Ok(Mark::Small(small));
+    }
+    let at = put_number(numbers, number)?;
+    Ok(Mark::Number(at))
+}
+
 /// Keeps what a token holds.
 fn mark_of(bytes: &mut Vec<u8>, numbers: &mut Vec<Number>, token: Token) -> Result<Mark, NoMemory>
     ensures bytes { Extends bytes.old.items bytes.new.items }
@@ -101,10 +117,7 @@ fn mark_of(bytes: &mut Vec<u8>, numbers: &mut Vec<Number>, token: Token) -> Resu
             let (start, len) = put(bytes, name.as_slice())?;
             Ok(Mark::Name { start, len, quoted })
         }
-        Token::Number(number) => {
-            let at = put_number(numbers, number)?;
-            Ok(Mark::Number(at))
-        }
+        Token::Number(number) => number_mark(numbers, number),
         Token::Text(text) => {
             let (start, len) = put(bytes, text.as_slice())?;
             Ok(Mark::Text { start, len })

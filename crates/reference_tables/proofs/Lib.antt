@@ -1,5 +1,5 @@
-pub mod Putting
-pub mod Given
+pub mod Truths
+pub mod Repeated
 pub mod Unread
-pub mod Stepped
 pub mod Rows
+pub mod Stepped

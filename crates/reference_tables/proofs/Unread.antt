@@ -9,7 +9,7 @@ use Rattle.table_rows.specs.declared.table.ColumnDef.{ColumnDef}
 use Rattle.table_rows.specs.declared.table.LabFault.{LabFault}
 use Rattle.table_rows.specs.Faults.{Place, first_of, first_unread, or_else, place_fault, cond_places, cond_places_step, row_places, place_at}
 use Rattle.table_rows.specs.Stored.{stored}
-use Rattle.table_checks.proofs.Firsts.{gives, goes, first_of-append, first_of-concat}
+use Rattle.table_checks.proofs.Firsts.{gives, first_of-append, first_of-concat}
 use Rattle.table_checks.proofs.Layers.{at-And, at-Or}
 
 -- ---- a loop that ends at the first
@@ -18,10 +18,6 @@ module _ {X Y : Type 0} (give : X → Option Y) (xs : List X) (i : ℕ) (x : X) 
   pub hit : (o : Option Y) → o ≡ give x → is_some o ≡ true → o ≡ first_of give xs
   hit None e some = cc
   hit (Some y) e some = sym (gives give xs i x y h is inv (sym e))
-
-  pub missed : (o : Option Y) → o ≡ give x → is_some o ≡ false → first_of give (drop (i + 1) xs) ≡ first_of give xs
-  missed None e none = goes give xs i x h is inv (sym e)
-  missed (Some y) e none = cc
 
 -- ---- two lists of places
 

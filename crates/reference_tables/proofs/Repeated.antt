@@ -17,8 +17,8 @@ module _ (keys : List Cell) (i : ℕ) (key : Cell) (h : i < length keys) (is : k
   at : (b : Bool) → list_any (λ c. are_equal (compare key c)) (take i keys) ≡ b → cond b (Some broken.Twice) rest ≡ broken_behind (stored []) [] keys
   at b e =
       sym (ap (broken_behind (stored []) (take i keys)) (drop_more keys i key h is)
-          ∙ (ap (λ n. cond n (Some broken.Null) (cond (list_any (λ c. are_equal (compare key c)) (take i keys)) (Some broken.Twice) rest)) some
-              ∙ ap (λ w. cond w (Some broken.Twice) rest) e))
+      ∙ (ap (λ n. cond n (Some broken.Null) (cond (list_any (λ c. are_equal (compare key c)) (take i keys)) (Some broken.Twice) rest)) some
+      ∙ ap (λ w. cond w (Some broken.Twice) rest) e))
       ∙ inv
 
   pub twice : list_any (λ c. are_equal (compare key c)) (take i keys) ≡ true → Some broken.Twice ≡ broken_behind (stored []) [] keys

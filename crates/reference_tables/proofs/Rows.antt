@@ -1,5 +1,5 @@
 -- Rows that are made and kept, as a loop comes to them.
-use Rattle.std.proofs.Common.{◌≡◌, ◌∙◌, ap, sym, refl, arith, ℕ, zero, suc, ◌+◌, ◌<◌, ◌≤◌, min, Bool, true, false, cond, List, [], ◌∷◌, ◌++◌, length, drop}
+use Rattle.std.proofs.Common.{◌≡◌, refl, arith, ℕ, zero, suc, ◌≤◌, min, List, [], ◌∷◌, length, drop}
 use Rattle.sql_tree.specs.declared.condition.Operand.{Operand}
 use Rattle.table_rows.specs.declared.cell.Cell.{Cell}
 use Rattle.table_rows.specs.declared.table.ColumnDef.{ColumnDef}

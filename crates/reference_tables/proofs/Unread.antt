@@ -1,13 +1,12 @@
 -- The first value that is not read, as a loop or a walk comes to it.
-use Rattle.std.proofs.Common.{◌≡◌, ◌∙◌, ap, sym, refl, arith, ℕ, zero, suc, ◌+◌, ◌<◌, ◌≤◌, min, Bool, true, false, List, [], ◌∷◌, ◌++◌, map, length, drop, get_or, Option, Some, None}
+use Rattle.std.proofs.Common.{◌≡◌, ◌∙◌, ap, sym, refl, arith, ℕ, zero, suc, ◌<◌, ◌≤◌, min, true, List, [], ◌∷◌, ◌++◌, length, drop, get_or, Option, Some, None}
 use Rattle.std.specs.Option.{is_some}
-use Rattle.std.specs.List.{flat_map}
 use Rattle.sql_tree.specs.declared.condition.Cond.{Cond}
 use Rattle.sql_tree.specs.declared.condition.Cond.TheVariants as tree
 use Rattle.sql_tree.specs.declared.condition.Operand.{Operand}
 use Rattle.table_rows.specs.declared.table.ColumnDef.{ColumnDef}
 use Rattle.table_rows.specs.declared.table.LabFault.{LabFault}
-use Rattle.table_rows.specs.Faults.{Place, first_of, first_unread, or_else, place_fault, cond_places, cond_places_step, row_places, place_at}
+use Rattle.table_rows.specs.Faults.{Place, first_of, first_unread, or_else, place_fault, cond_places, cond_places_step, row_places}
 use Rattle.table_rows.specs.Stored.{stored}
 use Rattle.table_checks.proofs.Firsts.{gives, first_of-append, first_of-concat}
 use Rattle.table_checks.proofs.Layers.{at-And, at-Or}

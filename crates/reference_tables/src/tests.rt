@@ -83,7 +83,8 @@ fn values(alloc: Global) -> Result<Vec<Operand>, Fail> {
 fn statement(alloc: Global, text: &str) -> Result<Statement, Fail>
     ensures { IfOk result (λ tree. is_grammatical tree ≡ true) }
 {
-    Ok(parse(alloc, text.as_bytes(), 65_536)?)
+    let tree = parse(alloc, text.as_bytes(), 65_536)?;
+    Ok(tree)
 }
 
 fn column_told(alloc: Global, column: &OutColumn, out: &mut Vec<u8>) -> Result<(), Fail> {

@@ -1,5 +1,4 @@
 use Rattle.std.proofs.Common.{◌∙◌, ap, sym, List, ℕ}
-use Rattle.table_rows.specs.Columns.{listed}
 use Rattle.std.specs.List.{flat_map}
 use Rattle.table_rows.specs.Faults.{first_unread, place_fault, row_places}
 use Rattle.table_rows.specs.Stored.{stored}

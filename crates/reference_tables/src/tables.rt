@@ -290,7 +290,8 @@ fn exec_on(
 }
 
 /// Executes a statement, whose parameters have these values, as the machine of the tables is defined: each row is looked
-/// at by itself, and nothing is kept for the next. Without memory the tables stay.
+/// at by itself, and nothing is kept for the next. A table's OID is 16384 and its place among the tables, of which there
+/// are at most 65,536. Without memory the tables stay.
 pub fn exec(
     alloc: Global,
     tables: &mut [Table],

@@ -1,0 +1,5 @@
+pub mod Truths
+pub mod Repeated
+pub mod Unread
+pub mod Rows
+pub mod Stepped

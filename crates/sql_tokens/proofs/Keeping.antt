@@ -1,5 +1,5 @@
 -- Tokens stay what they are where more is kept behind.
-use Rattle.std.proofs.Common.{◌≡◌, ℕ, zero, suc, min, get_or, ◌+◌, ◌-◌, ◌≤◌, ◌<◌, true, List, [], ◌∷◌, ◌++◌, length, length-append, take, drop, ap, subst, ◌∙◌, refl, sym, arith}
+use Rattle.std.proofs.Common.{◌≡◌, ℕ, zero, suc, min, get_or, ◌+◌, ◌-◌, ◌≤◌, ◌<◌, List, [], ◌∷◌, ◌++◌, length, length-append, take, drop, ap, subst, ◌∙◌, refl, sym, arith}
 use Rattle.std.specs.Prelude.{Some, Result, Ok, Err, OnErr}
 use Rattle.std.proofs.lemmas.List.{take-append-le, drop-append-le, get_or_append_left, length-drop, take_all, drop_min}
 use Rattle.acra_base.specs.Names.{is_name}

@@ -1,5 +1,5 @@
 -- Tokens looked at without a copy.
-use Rattle.std.specs.Prelude.{ℕ, ◌≡◌, true, List, [], ◌∷◌, Option, Some, None}
+use Rattle.std.specs.Prelude.{◌≡◌, true, List, [], ◌∷◌, Option, Some, None}
 use Rattle.acra_base.specs.Names.{is_name}
 use Rattle.sql_tokens.specs.declared.slice.TokenRef.{TokenRef}
 use Rattle.sql_tokens.specs.declared.slice.TokenRef.TheVariants as see

@@ -25,11 +25,13 @@ fn show(alloc: Global, token: TokenRef<'_>, at: u32) -> Result<String, Fail> {
 /// All tokens with their places, and the place of the fault.
 fn shown(alloc: Global, lexed: &Lexed) -> Result<String, Fail> {
     let mut line = String::new(alloc);
-    let mut rest = lexed.tokens.as_slice();
-    while let (Some(token), Some(place)) = (rest.first(), rest.place()) {
-        line.push_str(show(alloc, token, place)?.as_str())?;
-        line.push(' ')?;
-        rest = rest.rest();
+    let tokens = lexed.tokens.as_slice();
+    for index in 0..tokens.len() {
+        let left = tokens.skip(index);
+        if let (Some(token), Some(place)) = (left.first(), left.place()) {
+            line.push_str(show(alloc, token, place)?.as_str())?;
+            line.push(' ')?;
+        }
     }
     if let Some(place) = lexed.fault {
         line.push_str(format!(in alloc; "!{place}")?.as_str())?;

@@ -1,4 +1,4 @@
-use Rattle.std.proofs.Common.{List, ap, drop, sym, ◌∙◌, arith}
+use Rattle.std.proofs.Common.{List, ap, drop, ◌∙◌}
 use Rattle.sql_tokens.specs.declared.token.Placed.{Placed}
 use Rattle.sql_tokens.proofs.Keeping.{all_rest, placed_rest}
 use Rattle.sql_tokens.proofs.slice.TokenSlice.skip.Goals as goal

@@ -13,6 +13,8 @@ pub use top::lab_top;
 #[cfg(test)]
 mod hostile_tests;
 #[cfg(test)]
+mod stored_tests;
+#[cfg(test)]
 mod testing;
 #[cfg(test)]
 mod tests;

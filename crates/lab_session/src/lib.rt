@@ -26,6 +26,3 @@ pub use notes::notes_tables;
 pub use seeded::client_ring;
 pub use session::first_session;
 pub use status::Status;
-
-#[cfg(test)]
-mod stored_tests;

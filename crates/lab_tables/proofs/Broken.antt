@@ -8,9 +8,9 @@ use Rattle.table_rows.specs.declared.table.BrokenKey.{BrokenKey}
 use Rattle.table_rows.specs.declared.table.BrokenKey.TheVariants as broken
 use Rattle.table_rows.specs.Faults.{are_equal, broken_behind}
 use Rattle.table_rows.specs.Stored.{stored, compare, is_null}
-use Rattle.lab_tables.specs.Keys.{broken_stored, broken_by}
+use Rattle.lab_tables.specs.Keys.{broken_stored}
 
-plus_nil : (xs : List Cell) → xs ++ [] ≡ xs
+pub plus_nil : (xs : List Cell) → xs ++ [] ≡ xs
 plus_nil [] = refl
 plus_nil (x ∷ xs) = ap (λ w. x ∷ w) (plus_nil xs)
 
@@ -18,23 +18,6 @@ plus_nil (x ∷ xs) = ap (λ w. x ∷ w) (plus_nil xs)
 pub broken_given : (given : List Operand) (earlier keys : List Cell) → broken_behind (stored given) earlier keys ≡ broken_stored earlier keys
 broken_given given earlier [] = refl
 broken_given given earlier (key ∷ keys) = ap (λ w. cond (is_null key) (Some broken.Null) (cond (list_any (λ c. are_equal (compare key c)) earlier) (Some broken.Twice) w)) (broken_given given (earlier ++ key ∷ []) keys)
-
--- a key that stands, and one that doesn't
-chosen : (a b : Bool) (rest : Option BrokenKey) → cond a (Some broken.Null) (cond b (Some broken.Twice) None) ≡ None → cond a (Some broken.Null) (cond b (Some broken.Twice) rest) ≡ rest
-chosen true b rest e = cc
-chosen false true rest e = cc
-chosen false false rest e = refl
-
-found : (a b : Bool) (rest : Option BrokenKey) (why : BrokenKey) → cond a (Some broken.Null) (cond b (Some broken.Twice) None) ≡ Some why → cond a (Some broken.Null) (cond b (Some broken.Twice) rest) ≡ Some why
-found true b rest why e = e
-found false true rest why e = e
-found false false rest why e = cc
-
-pub broken_step : (earlier : List Cell) (key : Cell) (keys : List Cell) → broken_by earlier key ≡ None → broken_stored earlier (key ∷ keys) ≡ broken_stored (earlier ++ key ∷ []) keys
-broken_step earlier key keys e = chosen (is_null key) (list_any (λ c. are_equal (compare key c)) earlier) (broken_stored (earlier ++ key ∷ []) keys) e
-
-pub broken_found : (earlier : List Cell) (key : Cell) (keys : List Cell) (why : BrokenKey) → broken_by earlier key ≡ Some why → broken_stored earlier (key ∷ keys) ≡ Some why
-broken_found earlier key keys why e = found (is_null key) (list_any (λ c. are_equal (compare key c)) earlier) (broken_stored (earlier ++ key ∷ []) keys) why e
 
 -- what a key that stands tells
 pub record Stands (earlier : List Cell) (key : Cell) (keys : List Cell) : Type 0 where

@@ -1,7 +1,6 @@
 -- What a statement does to several tables.
-use Rattle.std.proofs.Common.{◌≡◌, ◌≤◌, ◌<◌, ℕ, zero, suc, Bool, true, false, cond, List, [], ◌∷◌, ◌++◌, map, length, refl, sym, ap, ◌∙◌, subst, arith, Option, Some, None, Result, Ok, Err}
+use Rattle.std.proofs.Common.{◌≡◌, ◌≤◌, ◌<◌, ℕ, zero, suc, Bool, cond, List, [], ◌∷◌, map, length, refl, sym, ap, ◌∙◌, subst, arith, Option, Some, None, Result, Ok, Err}
 use Rattle.std.specs.Prelude.{slice_get, slice_set, slice_index_or, IfOk, OnErr, filter, option_map}
-use Rattle.std.specs.List.{AllByRecursion}
 use Rattle.sql_tree.specs.declared.condition.Operand.{Operand}
 use Rattle.sql_tree.specs.declared.statement.Statement.{Statement}
 use Rattle.sql_tree.specs.declared.statement.Statement.TheVariants as statement
@@ -17,8 +16,8 @@ use Rattle.table_rows.specs.Columns.{place}
 use Rattle.table_rows.specs.Faults.{fault, key_fault, no_table, broken_fault, key_name}
 use Rattle.table_rows.specs.Machine as machine
 use Rattle.table_rows.specs.Stored.{stored}
-use Rattle.table_rows.specs.Tables.{Table, Step, is_table, told, unless, change, performed, step_unless, step, table_named, answer_of, tables_of, answer_named, tables_named, answered, executed}
-use Rattle.lab_tables.specs.Changing.{KeyHolds, keys_in}
+use Rattle.table_rows.specs.Tables.{Table, Step, is_table, told, unless, performed, step_unless, step, table_named, answer_of, tables_of, answer_named, tables_named, answered, executed}
+use Rattle.lab_tables.specs.Changing.{KeyHolds}
 use Rattle.lab_tables.specs.Doing.{IsDone, Tells}
 use Rattle.lab_tables.specs.Shelves.{joined, is_def, AllHold}
 use Rattle.lab_tables.proofs.Broken.{filter_holds}

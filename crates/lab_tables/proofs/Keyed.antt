@@ -1,18 +1,15 @@
 -- The key of a table after a change.
-use Rattle.std.proofs.Common.{◌≡◌, ℕ, Bool, true, false, List, [], ◌∷◌, ◌++◌, map, length, refl, sym, ap, ◌∙◌, Option, Some, None}
+use Rattle.std.proofs.Common.{◌≡◌, ℕ, List, [], ◌++◌, refl, ap, ◌∙◌, Option, Some, None}
 use Rattle.std.specs.Prelude.{option_map, slice_index_or}
 use Rattle.table_rows.specs.declared.cell.Cell.TheVariants as cells
 use Rattle.std.proofs.lemmas.List.{map-append}
 use Rattle.sql_tree.specs.declared.condition.Operand.{Operand}
 use Rattle.table_rows.specs.declared.cell.Cell.{Cell}
-use Rattle.table_rows.specs.declared.table.BrokenKey.{BrokenKey}
 use Rattle.table_rows.specs.declared.table.ColumnDef.{ColumnDef}
 use Rattle.table_rows.specs.declared.table.LabFault.{LabFault}
 use Rattle.table_rows.specs.declared.table.TableDef.{TableDef}
 use Rattle.table_rows.specs.declared.table.Outcome.TheVariants as outcome
-use Rattle.table_rows.specs.Columns.{listed}
-use Rattle.table_rows.specs.Faults.{broken_fault, broken_behind, keys_at, key_name, key_fault}
-use Rattle.table_rows.specs.Machine as machine
+use Rattle.table_rows.specs.Faults.{broken_fault, key_name, key_fault}
 use Rattle.table_rows.specs.Stored.{stored}
 use Rattle.table_rows.specs.Tables.{change, unless, told}
 use Rattle.lab_tables.specs.Keys.{broken_stored}

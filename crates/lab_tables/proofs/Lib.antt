@@ -1,4 +1,5 @@
 pub mod Broken
+pub mod Walked
 pub mod Alike
 pub mod Shelved
 pub mod Steps

@@ -1,5 +1,5 @@
 -- A table whose rows come into another order, among the others.
-use Rattle.std.proofs.Common.{◌≡◌, ◌≤◌, ◌<◌, ◌↔◌, ℕ, zero, suc, arith, Bool, true, false, true≢false, cond, List, [], ◌∷◌, map, length, refl, sym, ap, ◌∙◌, subst, Option, Some, None, Result, Ok, Err}
+use Rattle.std.proofs.Common.{◌≡◌, ◌≤◌, ◌<◌, ◌↔◌, ℕ, zero, suc, arith, Bool, true, false, true≢false, cond, List, [], ◌∷◌, length, refl, sym, ap, ◌∙◌, subst, Some, Result, Ok, Err}
 use Rattle.std.specs.Prelude.{slice_get, slice_set, IfOk, OnErr}
 use Rattle.table_rows.specs.declared.cell.Cell.{Cell}
 use Rattle.table_rows.specs.declared.table.TableDef.{TableDef}

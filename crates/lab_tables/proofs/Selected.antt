@@ -1,5 +1,5 @@
 -- What bound parts find is what the statement asks.
-use Rattle.std.proofs.Common.{◌≡◌, ℕ, Bool, true, false, List, [], ◌∷◌, map, length, refl, sym, ap, ◌∙◌, pos, Option, Some, None}
+use Rattle.std.proofs.Common.{◌≡◌, ℕ, List, [], ◌∷◌, map, length, refl, ap, ◌∙◌, pos, Option}
 use Rattle.std.specs.Prelude.{not, filter}
 use Rattle.sql_tree.specs.declared.condition.Cond.{Cond}
 use Rattle.sql_tree.specs.declared.condition.Operand.{Operand}

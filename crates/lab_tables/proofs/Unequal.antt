@@ -1,8 +1,8 @@
 -- The key's fold says that the keys differ.
-use Rattle.std.proofs.Common.{◌≡◌, ◌<◌, ◌≤◌, ◌+◌, ◌↔◌, ℕ, zero, suc, Bool, true, false, true≢false, cond, List, [], ◌∷◌, ◌++◌, map, length, slice_index_or, refl, sym, ap, ◌∙◌, subst, inl, inr, ⊎_elim, append_assoc, arith, Option, Some, None}
+use Rattle.std.proofs.Common.{◌≡◌, ◌<◌, ◌+◌, ℕ, zero, suc, Bool, true, false, true≢false, List, [], ◌∷◌, ◌++◌, length, slice_index_or, refl, sym, ap, ◌∙◌, subst, ⊎_elim, append_assoc, arith, Option, Some, None}
 use Rattle.std.specs.Prelude.{option_map}
-use Rattle.std.specs.List.{list_any, AllByRecursion}
-use Rattle.std.specs.Cmp.{nat_cmp_total, int_cmp_total}
+use Rattle.std.specs.List.{list_any}
+use Rattle.std.specs.Cmp.{int_cmp_total}
 use Rattle.std.specs.Cmp.Lexicographic.{slice_cmp, nat_list_cmp_total}
 use Rattle.std.specs.declared.cmp.Ordering.{Ordering}
 use Rattle.std.specs.declared.cmp.Ordering.TheVariants.{Less, Equal, Greater}
@@ -10,7 +10,6 @@ use Rattle.std.specs.Ordering.{is_eq, nat_cmp, int_cmp, ordering_reverse}
 use Rattle.std.proofs.lemmas.Bool.{cases_lt}
 use Rattle.std.proofs.lemmas.List.{get_or-map, get_or_at, get_or_append_left, length-map, length-append}
 use Rattle.std.proofs.lemmas.List.Folds.{list_any_at}
-use Rattle.sql_tree.specs.declared.condition.Operand.{Operand}
 use Rattle.table_rows.specs.declared.cell.Cell.{Cell}
 use Rattle.table_rows.specs.declared.cell.Cell.TheVariants as cell
 use Rattle.table_rows.specs.declared.table.ColumnDef.{ColumnDef}
@@ -23,17 +22,17 @@ use Rattle.lab_tables.specs.Keys.{broken_stored}
 use Rattle.lab_tables.specs.Changing.{KeyHolds, keys_in}
 use Rattle.lab_tables.specs.Differing.{Differ, KeysDiffer, AllDiffer, KeyIsExact}
 use Rattle.lab_tables.specs.Shelves.{AllHold}
-use Rattle.lab_tables.proofs.Broken.{stands, Stands}
+use Rattle.lab_tables.proofs.Broken.{stands}
 use Rattle.lab_tables.proofs.Keyed.{key_given, none_inside}
 
 -- ---- equality goes both ways
 
-reversed : (o : Ordering) → is_eq (ordering_reverse o) ≡ is_eq o
+pub reversed : (o : Ordering) → is_eq (ordering_reverse o) ≡ is_eq o
 reversed Less = refl
 reversed Equal = refl
 reversed Greater = refl
 
-symmetric : (a b : Cell) → are_equal (compare a b) ≡ are_equal (compare b a)
+pub symmetric : (a b : Cell) → are_equal (compare a b) ≡ are_equal (compare b a)
 symmetric (cell.Int a) (cell.Int b) = ap is_eq (int_cmp_total.antisymm a b) ∙ reversed (int_cmp b a)
 symmetric (cell.Bytes a) (cell.Bytes b) = ap is_eq (nat_list_cmp_total.antisymm a b) ∙ reversed (slice_cmp nat_cmp b a)
 symmetric (cell.Int a) (cell.Bytes b) = refl

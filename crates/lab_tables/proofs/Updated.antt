@@ -1,5 +1,5 @@
 -- What an UPDATE leaves.
-use Rattle.std.proofs.Common.{◌≡◌, ℕ, zero, suc, Bool, true, false, cond, List, [], ◌∷◌, ◌++◌, map, length, refl, sym, ap, ◌∙◌, subst, Option, Some, None, Result, Ok, Err, inl, inr, true≢false}
+use Rattle.std.proofs.Common.{◌≡◌, ℕ, zero, suc, Bool, true, false, cond, List, [], ◌∷◌, ◌++◌, map, refl, sym, ap, ◌∙◌, Option, Some, None, Result, Ok, Err, inl, inr, true≢false}
 use Rattle.std.specs.Prelude.{option_map, slice_index_or, slice_set, ◌==◌, ◌||◌}
 use Rattle.std.proofs.lemmas.Bool.{cases_Bool, eq-eqb}
 use Rattle.sql_tree.specs.declared.condition.Cond.{Cond}
@@ -15,12 +15,12 @@ use Rattle.table_rows.specs.declared.cell.Cell.TheVariants as cells
 use Rattle.table_rows.specs.declared.filter.Filter.{Filter}
 use Rattle.table_rows.specs.declared.table.LabFault.{LabFault}
 use Rattle.table_rows.specs.declared.table.TableDef.{TableDef}
-use Rattle.table_rows.specs.Faults.{Place, or_else, first_of, first_unread, place_fault, set_places, where_places, broken_fault, key_name, key_fault}
+use Rattle.table_rows.specs.Faults.{Place, or_else, first_unread, place_fault, broken_fault, key_name, key_fault}
 use Rattle.table_rows.specs.Filters as filters
 use Rattle.table_rows.specs.Machine as machine
 use Rattle.table_rows.specs.Stored.{stored}
 use Rattle.lab_tables.specs.Keys.{broken_stored}
-use Rattle.lab_tables.specs.Changing.{KeyHolds, keys_in, fault_at, set_fault, changed_fault, replacement, chosen, chosen_rows, sets_place, update_fault}
+use Rattle.lab_tables.specs.Changing.{KeyHolds, keys_in, fault_at, set_fault, changed_fault, replacement, chosen, chosen_rows, sets_place}
 use Rattle.table_rows.specs.declared.table.Outcome.{Outcome}
 use Rattle.table_rows.specs.declared.table.Outcome.TheVariants as outcome
 use Rattle.table_rows.specs.Tables.{Answer, change, told}

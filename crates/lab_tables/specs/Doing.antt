@@ -1,5 +1,5 @@
 -- What a statement does to the rows of a table, as a call answers it.
-use Rattle.std.specs.Prelude.{ℕ, ◌≡◌, List, Option, Some, None, Result, Ok, Err, IsErr}
+use Rattle.std.specs.Prelude.{◌≡◌, List, Option, Some, None, Result, Ok, Err, IsErr}
 use Rattle.table_checks.specs.declared.fault.BindFault.{BindFault}
 use Rattle.table_checks.specs.declared.fault.BindFault.TheVariants as bind
 use Rattle.table_rows.specs.declared.cell.Cell.{Cell}

@@ -1,7 +1,6 @@
 -- The tables that a machine holds: their definitions, and the rows of the first of them; the others have none.
-use Rattle.std.specs.Prelude.{ℕ, ◌≡◌, ◌≤◌, ◌<◌, Bool, true, false, not, ◌&&◌, List, [], ◌∷◌, map, length, Option, Some, None}
+use Rattle.std.specs.Prelude.{ℕ, ◌≡◌, ◌≤◌, ◌<◌, Bool, true, not, ◌&&◌, List, [], ◌∷◌, map, length, Option, Some, None}
 use Rattle.std.specs.List.{All, AllByRecursion, list_any}
-use Rattle.acra_base.specs.declared.kind.ValueKind.{ValueKind}
 use Rattle.table_rows.specs.declared.cell.Cell.{Cell}
 use Rattle.table_rows.specs.declared.table.ColumnDef.{ColumnDef}
 use Rattle.table_rows.specs.declared.table.TableDef.{TableDef}

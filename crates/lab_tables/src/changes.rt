@@ -70,7 +70,7 @@ fn broken_new(
         return Ok(None);
     };
     let keys = keys_of(alloc, place, new)?;
-    match first_broken(place, rows, &keys) {
+    match first_broken(alloc, place, rows, &keys)? {
         None => Ok(None),
         Some(broken) => Ok(Some(key_fault(alloc, def, place, broken)?)),
     }
@@ -177,7 +177,7 @@ fn broken_then(
         return Ok(None);
     }
     let keys = keys_then(alloc, place, rows, changed)?;
-    match first_broken(place, &[], &keys) {
+    match first_broken(alloc, place, &[], &keys)? {
         None => Ok(None),
         Some(broken) => Ok(Some(key_fault(alloc, def, place, broken)?)),
     }

@@ -10,6 +10,3 @@ mod tables;
 
 pub use laws::key_is_exact;
 pub use tables::Tables;
-
-#[cfg(test)]
-mod tests;

@@ -270,3 +270,11 @@ fn random_statements_do_what_the_plain_program_does(rt: HostRuntime) -> Result<(
     assert!(rt; tallies[1].with_rows > 100, "in {tallies:?}");
     Ok(())
 }
+
+#[test]
+fn the_empty_statement_needs_no_table(rt: HostRuntime) -> Result<(), Fail> {
+    let mut tables = Tables::new(rt.alloc(), Vec::new(rt.alloc()));
+    let outcome = tables.exec(&Statement::Empty, &[])?;
+    assert!(rt; matches!(outcome, Outcome::Count(0)));
+    Ok(())
+}

@@ -6,6 +6,7 @@ mod deep;
 mod misspelled;
 mod outside;
 mod selects;
+mod tokens;
 mod words;
 
 use super::*;

@@ -21,6 +21,3 @@ pub use sign::Sign;
 pub use slice::{TokenRef, TokenSlice};
 pub use token::{Placed, Token};
 pub use tokens::Tokens;
-
-#[cfg(test)]
-mod tests;

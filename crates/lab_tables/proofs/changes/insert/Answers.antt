@@ -1,7 +1,6 @@
-use Rattle.std.proofs.Common.{sym, ap, ◌∙◌, ◌++◌, map, length, []}
-use Rattle.table_rows.specs.Columns.{listed}
+use Rattle.std.proofs.Common.{sym, ap, ◌∙◌, ◌++◌, length, []}
 use Rattle.table_rows.specs.Faults.{key_fault}
-use Rattle.table_rows.specs.Machine.{insert, new_row}
+use Rattle.table_rows.specs.Machine.{insert}
 use Rattle.table_rows.specs.Stored.{stored}
 use Rattle.lab_tables.specs.Changing.{new_fault}
 use Rattle.lab_tables.proofs.Keyed.{insert_key, change_stands, change_fails}

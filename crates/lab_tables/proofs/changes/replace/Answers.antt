@@ -1,4 +1,4 @@
-use Rattle.std.proofs.Common.{◌≡◌, ◌++◌, ◌∷◌, [], sym, ap, ◌∙◌, length, slice_set, arith, rules, Option, Some, None}
+use Rattle.std.proofs.Common.{◌≡◌, ◌++◌, ◌∷◌, [], sym, ap, ◌∙◌, length, slice_set, arith, rules, Some, None}
 use Rattle.lab_tables.specs.Changing.{chosen_rows}
 use Rattle.lab_tables.proofs.Shelved.{length_push}
 use Rattle.lab_tables.proofs.Steps.{last_kept, last_set, set_length, ended}

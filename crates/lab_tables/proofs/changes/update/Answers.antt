@@ -1,4 +1,4 @@
-use Rattle.std.proofs.Common.{sym, ap, ◌∙◌, map, length}
+use Rattle.std.proofs.Common.{sym, ap, ◌∙◌, length}
 use Rattle.table_rows.specs.Machine.{kept}
 use Rattle.table_rows.specs.Stored.{stored}
 use Rattle.table_rows.specs.declared.table.Outcome.TheVariants as outcome

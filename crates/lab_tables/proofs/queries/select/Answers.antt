@@ -1,7 +1,4 @@
-use Rattle.std.proofs.Common.{sym, ap, ◌∙◌, map, rules}
-use Rattle.sql_tree.specs.declared.statement.Item.{Item}
-use Rattle.table_rows.specs.declared.table.Outcome.TheVariants as outcome
-use Rattle.table_rows.specs.Tables.{spelled_row}
+use Rattle.std.proofs.Common.{rules}
 use Rattle.lab_tables.proofs.Selected.{given_same, rows_of}
 use Rattle.lab_tables.proofs.queries.select.Goals as goal
 

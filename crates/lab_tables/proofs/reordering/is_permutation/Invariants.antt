@@ -1,4 +1,3 @@
-use Rattle.std.proofs.Common.{◌≡◌}
 use Rattle.lab_tables.proofs.Permuted.{Marked}
 use Rattle.lab_tables.proofs.reordering.is_permutation.Given as goal
 

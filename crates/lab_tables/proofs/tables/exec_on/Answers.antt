@@ -1,5 +1,5 @@
 use Rattle.std.proofs.Common.{◌≡◌, ◌≤◌, ◌<◌, arith, rules, sym, ap, ◌∙◌, subst, map, length, Some}
-use Rattle.std.specs.Prelude.{slice_get, slice_set, IfOk, OnErr}
+use Rattle.std.specs.Prelude.{slice_get, IfOk, OnErr}
 use Rattle.std.proofs.lemmas.List.{length-map}
 use Rattle.table_rows.specs.declared.table.Outcome.TheVariants as outcome
 use Rattle.table_rows.specs.Stored.{stored}

@@ -1,8 +1,7 @@
-use Rattle.std.proofs.Common.{◌≡◌, ◌≤◌, ◌<◌, arith, rules, sym, ap, ◌∙◌, subst, map, length, Some}
-use Rattle.std.specs.Prelude.{slice_get, slice_set, IfOk, OnErr, if◌then◌else◌}
+use Rattle.std.proofs.Common.{◌≡◌, ◌<◌, arith, rules, sym, subst, map, length, Some}
+use Rattle.std.specs.Prelude.{slice_get, IfOk, OnErr, if◌then◌else◌}
 use Rattle.std.proofs.lemmas.List.{length-map}
 use Rattle.table_rows.specs.Reordered.{reordered}
-use Rattle.table_rows.specs.declared.table.TableDef.{TableDef}
 use Rattle.lab_tables.specs.Shelves.{joined, AllHold}
 use Rattle.lab_tables.proofs.Executed.{get_at, get_mapped, map_set}
 use Rattle.lab_tables.proofs.Rearranged.{no_table, some_at, can, arranged, stays, holds}

@@ -1,4 +1,4 @@
-use Rattle.std.proofs.Common.{arith, map, length, sym, ap, ◌∙◌, subst, [], ◌≤◌}
+use Rattle.std.proofs.Common.{arith, map, length, sym, ap, ◌∙◌, subst}
 use Rattle.lab_tables.specs.Shelves.{joined, AllHold}
 use Rattle.lab_tables.proofs.Shelved.{joined_none, empty_hold}
 use Rattle.lab_tables.proofs.tables.Tables.new.Goals as goal

@@ -3,15 +3,14 @@ ghost use Rattle.lab_service.specs.Sessions.{new_session};
 ghost use Rattle.plain_tables.specs.Notes.{notes_with};
 ghost use Rattle.lab_session.specs.Session.{connection};
 
-use super::*;
+use crate::testing::STARTUP;
 use acra_base::{ClientId, SureLink};
 use lab_service::LabBackend;
+use lab_session::{Status, client_ring, first_session, notes_tables};
 use std::alloc::Global;
 use std::test::Fail;
 
-/// The startup message of the client app, and an INSERT of a string that is quoted so.
-const STARTUP: &[u8] = b"\x00\x00\x00\x12\x00\x03\x00\x00user\x00app\x00\x00";
-
+/// An INSERT of a string that is quoted so.
 const INSERT: &[u8] = b"Q\x00\x00\x00\x35INSERT INTO notes (id, body) VALUES (1, 'it''s')\x00";
 
 /// Where the reply to the startup message ends, and how long the reply to an INSERT is.

@@ -1,4 +1,6 @@
-use crate::{Lexed, TokenRef, lex};
+//! The tokens of texts, with their places.
+
+use sql_tokens::{Lexed, TokenRef, lex};
 use std::alloc::Global;
 use std::str::from_utf8;
 use std::test::Fail;

@@ -1,5 +1,5 @@
 -- A part of a list that is mapped.
-use Rattle.std.proofs.Common.{◌≡◌, ℕ, zero, suc, List, [], ◌∷◌, map, take, drop, length, refl, sym, ap, ◌∙◌, Option, Some, None}
+use Rattle.std.proofs.Common.{◌≡◌, ℕ, List, [], ◌∷◌, map, length, refl, sym, ap, ◌∙◌, Option}
 use Rattle.sql_tree.specs.declared.statement.Item.{Item}
 use Rattle.sql_tree.specs.declared.statement.Items.{Items}
 use Rattle.sql_tree.specs.declared.statement.Items.TheVariants as items
@@ -10,31 +10,11 @@ use Rattle.table_rows.specs.declared.table.ColumnDef.{ColumnDef}
 use Rattle.table_rows.specs.declared.table.OutColumn.{OutColumn}
 use Rattle.table_rows.specs.Columns.{column_place}
 use Rattle.table_rows.specs.Filters.{before}
-use Rattle.table_rows.specs.Machine.{behind, up_to, window}
+use Rattle.table_rows.specs.Machine.{window}
 use Rattle.table_rows.specs.Tables.{spelled_row}
 use Rattle.lab_tables.specs.Finding.{kept_by, found_by, cells_at, spelled_items, given_cells}
+use Rattle.table_rows.proofs.Statements.{window_map}
 use Rattle.lab_tables.proofs.Alike.{sort_none, map_map}
-
-take_map : {X Y : Type 0} (f : X → Y) (n : ℕ) (xs : List X) → take n (map f xs) ≡ map f (take n xs)
-take_map f zero xs = refl
-take_map f (suc n) [] = refl
-take_map f (suc n) (x ∷ xs) = ap (λ w. f x ∷ w) (take_map f n xs)
-
-drop_map : {X Y : Type 0} (f : X → Y) (n : ℕ) (xs : List X) → drop n (map f xs) ≡ map f (drop n xs)
-drop_map f zero xs = refl
-drop_map f (suc n) [] = refl
-drop_map f (suc n) (x ∷ xs) = drop_map f n xs
-
-behind_map : {X Y : Type 0} (f : X → Y) (n : Option ℕ) (xs : List X) → behind n (map f xs) ≡ map f (behind n xs)
-behind_map f None xs = refl
-behind_map f (Some n) xs = drop_map f n xs
-
-up_to_map : {X Y : Type 0} (f : X → Y) (n : Option ℕ) (xs : List X) → up_to n (map f xs) ≡ map f (up_to n xs)
-up_to_map f None xs = refl
-up_to_map f (Some n) xs = take_map f n xs
-
-window_map : {X Y : Type 0} (f : X → Y) (limit offset : Option ℕ) (xs : List X) → window limit offset (map f xs) ≡ map f (window limit offset xs)
-window_map f limit offset xs = ap (up_to limit) (behind_map f offset xs) ∙ up_to_map f limit (behind offset xs)
 
 -- without keys rows stay as they are
 pub found_unsorted : (condition : Option Filter) (keys : List SortKey) (rows : List (List Cell)) → length keys ≡ 0 → found_by condition keys rows ≡ kept_by condition rows

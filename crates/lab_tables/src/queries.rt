@@ -128,29 +128,13 @@ fn item_rows(
 }
 
 /// The one row of a count.
-fn count_row(alloc: Global, count: u64) -> Result<Vec<Sequence<Cell>>, NoMemory>
+fn count_row(alloc: Global, count: u64) -> Result<Sequence<Cell>, NoMemory>
     requires { count < 2 ^ 63 }
-    ensures { IfOk result (λ rows. rows.items ≡ (cells.Int (pos count) ∷ []) ∷ []) }
+    ensures { IfOk result (λ row. row ≡ cells.Int (pos count) ∷ []) }
 {
     let mut row = Sequence::new(alloc);
     row.push(Cell::Int(count as i64))?;
-    let mut rows = Vec::new(alloc);
-    rows.push(row)?;
-    Ok(rows)
-}
-
-fn owned_rows(
-    alloc: Global,
-    columns: &[OutColumn],
-    rows: &[Sequence<Cell>],
-) -> Result<Sequence<Sequence<Option<Bytes>>>, NoMemory>
-    ensures { IfOk result (λ out. out ≡ map (spec.spelled_row columns.now) rows.now) }
-{
-    let mut out = Sequence::new(alloc);
-    'rows: for row in rows {
-        out.push(spelled_row(alloc, columns, row.as_slice())?)?;
-    }
-    Ok(out)
+    Ok(row)
 }
 
 /// What a SELECT asks of its table.
@@ -183,8 +167,8 @@ fn given_rows(
 {
     match query.items {
         Items::Count { .. } => {
-            let one = count_row(alloc, count_kept(rows, filter))?;
-            owned_rows(alloc, columns, window(&one, query.limit, query.offset))
+            let row = count_row(alloc, count_kept(rows, filter))?;
+            whole_rows(alloc, columns, window(&[&row], query.limit, query.offset))
         }
         Items::All => {
             let found = found(alloc, rows, filter, keys)?;

@@ -44,7 +44,7 @@ up_to_map : {X Y : Type 0} (f : X → Y) (n : Option ℕ) (xs : List X) → up_t
 up_to_map f None xs = refl
 up_to_map f (Some n) xs = take_map f n xs
 
-window_map : {X Y : Type 0} (f : X → Y) (limit offset : Option ℕ) (xs : List X) → window limit offset (map f xs) ≡ map f (window limit offset xs)
+pub window_map : {X Y : Type 0} (f : X → Y) (limit offset : Option ℕ) (xs : List X) → window limit offset (map f xs) ≡ map f (window limit offset xs)
 window_map f limit offset xs = ap (up_to limit) (behind_map f offset xs) ∙ up_to_map f limit (behind offset xs)
 
 maps_as : {X Y Z W : Type 0} (f : X → Y) (p : Y → Z) (q : X → W) (h : W → Z) → ((x : X) → p (f x) ≡ h (q x)) → (xs : List X) → map p (map f xs) ≡ map h (map q xs)

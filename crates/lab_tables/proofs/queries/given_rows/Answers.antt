@@ -9,13 +9,13 @@ use Rattle.lab_tables.proofs.queries.given_rows.Goals as goal
 pub returns-in_ok-found-in-All : goal.returns-in_ok-found-in-All
 returns-in_ok-found-in-All c =
     let q = c.args.query.now in
-    let x = ap (λ w. map (spelled_row c.args.columns.now) (map (λ r. r.now) w)) (c.window-in-All.ensures ∙ ap (window q.limit q.offset) c.deref-in-All.ensures.value)
+    let x = ap (λ w. map (spelled_row c.args.columns.now) (map (λ r. r.now) w)) (c.window-in-All.ensures ∙ ap (window q.limit q.offset) c.deref.ensures.value)
     ∙ whole_given (λ r. r.now) c.args.table.now q.items.now c.args.filter.now c.args.keys.now q.limit q.offset c.args.rows.now c.in_ok-found-in-All.found.items c.args.columns.now c.in_ok-found-in-All.ensures c.in-All.is in
-    IfOk-weaker c.whole_rows.result
+    IfOk-weaker c.whole_rows-in-All.result
     (λ out. out ≡ map (spelled_row c.args.columns.now) (map (λ r. r.now) c.window-in-All.result.now))
     (λ out. out ≡ map (spelled_row c.args.columns.now) (given_cells c.args.table.now q.items.now c.args.filter.now c.args.keys.now q.limit q.offset c.args.rows.now))
     (λ out e. e ∙ x)
-    c.whole_rows.ensures
+    c.whole_rows-in-All.ensures
 
 pub returns-in_ok-found-in-Columns : goal.returns-in_ok-found-in-Columns
 returns-in_ok-found-in-Columns c =

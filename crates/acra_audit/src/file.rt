@@ -1,4 +1,4 @@
-use acra_base::{Failed, Source};
+use acra_devices::{Failed, Source};
 use std::alloc::AllocError;
 use std::fs;
 use std::io::Read;

@@ -3,7 +3,7 @@
 
 mod file;
 
-use acra_base::WriterSink;
+use acra_devices::WriterSink;
 use audit_core::audit_top;
 use file::FileSource;
 use std::process::ExitCode;

@@ -1,17 +1,4 @@
-pub mod Known
-pub mod Pieces
-pub mod Grows
-pub mod Causes
-pub mod Wires
-pub mod Memory
-pub mod Shelves
-pub mod Keepers
-pub mod Seeding
 pub mod Names
 pub mod Client
 pub mod Padded
-pub mod Draws
-pub mod Seal
-pub mod Opening
-pub mod Trial
 pub mod Histories

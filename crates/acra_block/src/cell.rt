@@ -7,7 +7,8 @@ use crate::cut::cut;
 use crate::index::blind_index;
 use crate::keys::OwnerKey;
 use crate::kind::CellKind;
-use acra_base::{Aead, NoMemory};
+use acra_base::NoMemory;
+use acra_crypto::Aead;
 use std::alloc::Global;
 
 /// Appends what stands before the container of a masked cell.

@@ -2,7 +2,8 @@ ghost use Rattle.std.specs.Prelude.{◌≡◌, ◌≤◌, ◌<◌, ◌+◌, ◌-
 ghost use Rattle.acra_block.specs.Containers.{header, container, container_of, opened_value, opened_container};
 
 use crate::keys::OwnerKey;
-use acra_base::{Aead, Bytes, NoMemory};
+use acra_base::{Bytes, NoMemory};
+use acra_crypto::Aead;
 use std::alloc::Global;
 
 const MARK: [u8; 4] = [0x22; 4];

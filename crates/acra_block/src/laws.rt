@@ -7,7 +7,7 @@ ghost use Rattle.acra_block.specs.Keys.{Key, key_of};
 ghost use Rattle.acra_block.specs.Containers.{container_of, IsContainer, opened_container, IsSpelling};
 ghost use Rattle.acra_block.specs.Cells.{IsCuttable, cell, opened_cell};
 
-use acra_base::Aead;
+use acra_crypto::Aead;
 
 /// Bytes tell a container exactly where they are a header, of an id and a length, and as many bytes.
 pub fn one_form()

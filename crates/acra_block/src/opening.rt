@@ -5,7 +5,8 @@ use crate::container::{open_container, read_container};
 use crate::keys::KeyView;
 use crate::kind::CellKind;
 use crate::parts::parts_of;
-use acra_base::{Aead, NoMemory};
+use acra_base::NoMemory;
+use acra_crypto::Aead;
 
 /// What a cell opens to, in the order in which the causes are looked for.
 #[derive(Clone, Copy, Debug, PartialEq, Eq)]

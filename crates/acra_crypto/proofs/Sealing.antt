@@ -3,7 +3,7 @@ use Rattle.std.proofs.Common.{◌≡◌, ℕ, ◌<◌, ◌-◌, List, ◌++◌, 
 use Rattle.std.specs.Prelude.{nat_eq}
 use Rattle.std.proofs.lemmas.Bool.{false_from_ne_true}
 use Rattle.std.specs.Cmp.Lexicographic.{pointwise, same_text}
-use Rattle.acra_base.specs.Seal.{Unseals}
+use Rattle.acra_crypto.specs.Seal.{Unseals}
 use Rattle.std.specs.Int.{to_be_bytes}
 use Rattle.acra_crypto.specs.Gcm.{tag, gctr, gcm_sealed, gcm_opened, body_of, tag_of, with_tag, first_counter, inc32}
 use Rattle.acra_crypto.specs.Sealed.{length-tag, opened_with_tag, body_is, tag_is}

@@ -2,16 +2,17 @@
 
 ghost use Rattle.std.specs.Prelude.{◌≡◌, ℕ, ◌+◌, ◌++◌, List, length, OnOk, OnErr, IfOk};
 ghost use Rattle.std.specs.Int.{w32, to_be_bytes};
-ghost use Rattle.acra_base.specs.Seal.{Unseals};
+ghost use Rattle.acra_crypto.specs.Seal.{Unseals};
 ghost use Rattle.acra_crypto.specs.Aes.{aes256, key_schedule, encrypted};
 ghost use Rattle.acra_crypto.specs.Words.{bytes_of};
 ghost use Rattle.acra_crypto.specs.Gcm.{aes256_gcm, aes256_gcm_opened, gctr, tag};
 ghost use Rattle.acra_crypto.specs.Sealed.{gcm_only, gcm_opens, length-gcm_sealed};
 
+use crate::aead::Aead;
 use crate::aes::RoundKeys;
 use crate::counter::{add_keystream, add_mask, counter_block, is_same_tag};
 use crate::ghash::HashKey;
-use acra_base::{Aead, NoMemory};
+use acra_base::NoMemory;
 use std::alloc::Global;
 
 const TAG_LEN: usize = 16;

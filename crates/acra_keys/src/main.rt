@@ -1,7 +1,7 @@
 //! The program: opens the files `master` and `keystore` of a folder, does what its words ask, and keeps the ring.
 #![tactic(auto)]
 
-use acra_base::{FileKeeper, ReaderSource, SystemRandom, WriterSink};
+use acra_devices::{FileKeeper, ReaderSource, SystemRandom, WriterSink};
 use keys_core::{KeysStatus, ask_of, keys_top};
 use std::fs::File;
 use std::io::{self, ErrorKind, Read};

@@ -1,7 +1,7 @@
 //! The program: reads a client's bytes from standard input, and writes the replies to standard output.
 #![tactic(auto)]
 
-use acra_base::{ReaderSource, WriterSink};
+use acra_devices::{ReaderSource, WriterSink};
 use lab_core::lab_top;
 use std::process::ExitCode;
 use std::{env, io};

@@ -3,8 +3,8 @@ use Rattle.std.proofs.Common.{◌≡◌, ℕ, ◌+◌, ◌-◌, ◌%◌, ◌^◌
 use Rattle.std.specs.List.{flat_map}
 use Rattle.std.proofs.Math.Nat.{mod-eq_of_lt}
 use Rattle.std.proofs.lemmas.List.{length-take-le, take-append-le, append-nil}
-use Rattle.acra_base.specs.Known.{Shrank, IsAtEnd}
-use Rattle.acra_base.specs.Grows.{shrank_then}
+use Rattle.acra_devices.specs.Known.{Shrank, IsAtEnd}
+use Rattle.acra_devices.specs.Grows.{shrank_then}
 use Rattle.audit_chain.specs.Chains.{number_after}
 use Rattle.audit_chain.specs.Points.{Point, StandsBehind}
 use Rattle.audit_chain.specs.Findings.{written, Finding, Begins, IsBadLine, IsCutShort, IsTooLong}

@@ -5,7 +5,7 @@ use Rattle.std.proofs.Math.Nat.{mod-eq_of_lt}
 use Rattle.std.proofs.Math.Seq.{take-append-add, take-append_seam}
 use Rattle.std.proofs.lemmas.List.{append-nil, take_all}
 use Rattle.std.proofs.lemmas.Bool.{lt-ltb, le-ltb}
-use Rattle.acra_base.specs.Known.{Shrank, IsAtEnd}
+use Rattle.acra_devices.specs.Known.{Shrank, IsAtEnd}
 use Rattle.audit_chain.specs.Points.{Point, StandsBehind}
 use Rattle.audit_chain.specs.Findings.{written, Finding, Begins, IsBadLine, IsCutShort, IsTooLong, Stops, FindsIn, Finds}
 use Rattle.audit_chain.specs.Reads.{FoundIn, Ends}

@@ -1,6 +1,6 @@
 -- A log that is read piece by piece.
 use Rattle.std.specs.Prelude.{ℕ, ◌≡◌, ◌≤◌, ◌<◌, ◌+◌, ◌^◌, ◌⊎◌, List, [], ◌∷◌, ◌++◌, length, Bool, true, false, Option, Some, None, Result, Ok, Err, MatchResult}
-use Rattle.acra_base.specs.Known.{Shrank, IsAtEnd}
+use Rattle.acra_devices.specs.Known.{Shrank, IsAtEnd}
 use Rattle.audit_chain.specs.Points.{Point, StandsBehind}
 use Rattle.audit_chain.specs.Findings.{Finding, Finds, FindsIn}
 use Rattle.audit_chain.specs.Walks.{IsAt, StopsIn}

@@ -1,7 +1,7 @@
 -- What a verifier answers, by what is found in a log.
 use Rattle.std.specs.Prelude.{ℕ, ◌≡◌, ◌≤◌, ◌<◌, ◌+◌, ◌^◌, List, [], ◌∷◌, ◌++◌, length, Bool, true, false, Option, Some, None, Result, Ok, Err}
 use Rattle.std.specs.List.{list_any}
-use Rattle.acra_base.specs.Known.{Shrank, IsAtEnd}
+use Rattle.acra_devices.specs.Known.{Shrank, IsAtEnd}
 use Rattle.audit_chain.specs.Lines.{closes}
 use Rattle.audit_chain.specs.Points.{Point, StandsBehind}
 use Rattle.audit_chain.specs.Findings.{Finding, Finds}

@@ -1,6 +1,6 @@
 -- A walk along a log, byte by byte.
 use Rattle.std.specs.Prelude.{ℕ, ◌≡◌, ◌≤◌, ◌<◌, List, [], ◌∷◌, ◌++◌, length, true, Option, Result, Ok, Err, MatchResult}
-use Rattle.acra_base.specs.Known.{Shrank, IsAtEnd}
+use Rattle.acra_devices.specs.Known.{Shrank, IsAtEnd}
 use Rattle.audit_chain.specs.Chains.{number_after}
 use Rattle.audit_chain.specs.Points.{Point, StandsBehind}
 use Rattle.audit_chain.specs.Findings.{is_one_line, Begins, IsBadLine, IsTooLong, IsCutShort}

@@ -1,6 +1,6 @@
 ghost use Rattle.std.specs.Prelude.{◌≡◌, ◌≤◌, ◌↔◌, ◌∷◌, ◌++◌, List, ℕ, [], codes, Ok, IfOk, OnOk, IsErrOf, IsTrue, true, false};
-ghost use Rattle.acra_base.specs.Causes.{Rose};
-ghost use Rattle.acra_base.specs.Pieces.{AppendKeeps};
+ghost use Rattle.acra_devices.specs.Causes.{Rose};
+ghost use Rattle.acra_devices.specs.Pieces.{AppendKeeps};
 ghost use Rattle.acra_crypto.specs.Hmac.{hmac_sha256};
 ghost use Rattle.audit_chain.specs.Kinds.{is_close};
 ghost use Rattle.audit_chain.specs.Lines.{IsNote};
@@ -11,7 +11,8 @@ use crate::kind::NoteKind;
 use crate::line::{note_text, read_note, with_mac};
 use crate::note::Note;
 use crate::refusals::AppendRefusal;
-use acra_base::{Keeper, NoMemory};
+use acra_base::NoMemory;
+use acra_devices::Keeper;
 use acra_crypto::{HmacStream, hmac_sha256};
 use std::alloc::Global;
 use std::marker::Model;

@@ -1,13 +1,13 @@
 //! Reading a log once, from its beginning, in memory that doesn't grow with it.
 
 ghost use Rattle.std.specs.Prelude.{◌≡◌, ◌≤◌, ◌<◌, IsErrOf};
-ghost use Rattle.acra_base.specs.Causes.{Rose};
+ghost use Rattle.acra_devices.specs.Causes.{Rose};
 ghost use Rattle.audit_chain.specs.Reads.{ReadsPiece, Ends};
 
 use crate::chain::Chain;
 use crate::stop::Stop;
 use crate::walk::Walk;
-use acra_base::Source;
+use acra_devices::Source;
 use std::alloc::Global;
 
 /// At most so many bytes of a log are read.

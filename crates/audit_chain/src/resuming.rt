@@ -1,5 +1,5 @@
 ghost use Rattle.std.specs.Prelude.{◌≡◌, ◌≤◌, IsErrOf};
-ghost use Rattle.acra_base.specs.Causes.{Rose};
+ghost use Rattle.acra_devices.specs.Causes.{Rose};
 ghost use Rattle.audit_chain.specs.Verdicts.{WhereRead};
 ghost use Rattle.audit_chain.specs.Resuming.{Resumed, IsDueTo};
 
@@ -7,7 +7,7 @@ use crate::chain::Chain;
 use crate::reading::read_log;
 use crate::refusals::ResumeFault;
 use crate::stop::Stop;
-use acra_base::Source;
+use acra_devices::Source;
 use std::alloc::Global;
 
 impl Chain {

@@ -1,5 +1,6 @@
 use super::*;
-use acra_base::{ClientId, Failed, MemKeeper, MemLink, Source, SureKeeper, SureLink};
+use acra_base::ClientId;
+use acra_devices::{Failed, MemKeeper, MemLink, Source, SureKeeper, SureLink};
 use std::alloc::Global;
 use std::test::Fail;
 

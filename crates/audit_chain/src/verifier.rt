@@ -1,10 +1,10 @@
 ghost use Rattle.std.specs.Prelude.{◌≡◌, ◌≤◌, IsErrOf};
-ghost use Rattle.acra_base.specs.Causes.{Rose};
+ghost use Rattle.acra_devices.specs.Causes.{Rose};
 ghost use Rattle.audit_chain.specs.Verdicts.{WhereRead, Found, IsDue};
 
 use crate::reading::read_log;
 use crate::stop::Stop;
-use acra_base::Source;
+use acra_devices::Source;
 use std::alloc::Global;
 use thiserror::Error;
 

@@ -1,7 +1,7 @@
 -- How a run ends, by its steps.
 use Rattle.std.proofs.Common.{◌≡◌, ℕ, ◌⊎◌, inl, inr, Bool, true, false, List, [], Option, Some, None, Result, Ok, Err, refl, sym, ap, subst, ◌∙◌}
-use Rattle.acra_base.specs.Known.{Grew}
-use Rattle.acra_base.specs.Grows.{grew_nothing}
+use Rattle.acra_devices.specs.Known.{Grew}
+use Rattle.acra_devices.specs.Grows.{grew_nothing}
 use Rattle.keystore.specs.Rings.{RingState}
 use Rattle.audit_chain.specs.Findings.{Finding, Finds}
 use Rattle.audit_chain.specs.Verdicts.{WhereRead}

@@ -3,8 +3,8 @@ use Rattle.std.proofs.Common.{◌≡◌, ℕ, ◌<◌, ◌-◌, ◌⊎◌, inl, 
 use Rattle.std.specs.Prelude.{codes}
 use Rattle.std.specs.Fmt.{decimal}
 use Rattle.std.proofs.lemmas.List.{take-append-drop, length-drop}
-use Rattle.acra_base.specs.Known.{Grew}
-use Rattle.acra_base.specs.Grows.{grew_nothing}
+use Rattle.acra_devices.specs.Known.{Grew}
+use Rattle.acra_devices.specs.Grows.{grew_nothing}
 use Rattle.audit_chain.specs.Findings.{Finding, Finds}
 use Rattle.audit_chain.specs.Verdicts.{WhereRead, Found, Gives, IsDue, is_closed}
 use Rattle.audit_chain.specs.declared.verifier.AuditVerdict.TheVariants as verdicts

@@ -1,6 +1,6 @@
 -- How a run ends, by the words, the files and what is printed.
 use Rattle.std.specs.Prelude.{ℕ, ◌≡◌, List, [], Option}
-use Rattle.acra_base.specs.Known.{Grew}
+use Rattle.acra_devices.specs.Known.{Grew}
 use Rattle.keystore.specs.Rings.{RingState}
 use Rattle.audit_chain.specs.Findings.{Finding, Finds}
 use Rattle.audit_core.specs.Keys.{IsMaster, IsKeystore, NoMaster, NoRing}

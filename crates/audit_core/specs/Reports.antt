@@ -1,7 +1,7 @@
 -- What is printed of a log, and how that ends.
 use Rattle.std.specs.Prelude.{ℕ, ◌≡◌, ◌<◌, ◌⊎◌, List, [], ◌++◌, length, Bool, true, false, Option}
 use Rattle.std.specs.Fmt.{decimal}
-use Rattle.acra_base.specs.Known.{Grew}
+use Rattle.acra_devices.specs.Known.{Grew}
 use Rattle.audit_chain.specs.Findings.{Finding, Finds}
 use Rattle.audit_core.specs.Texts.{printed}
 use Rattle.audit_core.specs.declared.status.FolderFile.TheVariants as files

@@ -1,11 +1,11 @@
 //! The audit key, as the folder's files give it.
 
 ghost use Rattle.std.specs.Prelude.{◌≡◌, ◌≤◌, IsErrOf};
-ghost use Rattle.acra_base.specs.Causes.{Rose};
+ghost use Rattle.acra_devices.specs.Causes.{Rose};
 ghost use Rattle.audit_chain.specs.Verdicts.{WhereRead};
 ghost use Rattle.audit_core.specs.Keys.{MasterFound, RingFound, RingDue};
 
-use acra_base::Source;
+use acra_devices::Source;
 use acra_crypto::Aes256Gcm;
 use key_files::{MasterFault, WholeFault, read_master, read_whole};
 use ring_file::{RingFault, read_ring};

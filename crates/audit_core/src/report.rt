@@ -1,11 +1,11 @@
 ghost use Rattle.std.specs.Prelude.{◌≡◌, ◌≤◌, ◌⊎◌};
-ghost use Rattle.acra_base.specs.Causes.{Rose};
+ghost use Rattle.acra_devices.specs.Causes.{Rose};
 ghost use Rattle.audit_chain.specs.Verdicts.{WhereRead};
 ghost use Rattle.audit_core.specs.Reports.{Printed, IsReport, Reported, IsDueReport};
 
 use crate::status::{AuditStatus, FolderFile};
 use crate::text::{closing_word, number_line};
-use acra_base::{Sink, Source, write_whole};
+use acra_devices::{Sink, Source, write_whole};
 use audit_chain::{AuditVerdict, VerifyFault, verify};
 use std::alloc::Global;
 

@@ -1,5 +1,5 @@
 use super::*;
-use acra_base::{MemLink, SureLink};
+use acra_devices::{MemLink, SureLink};
 use std::alloc::Global;
 use std::test::Fail;
 

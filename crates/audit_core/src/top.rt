@@ -1,12 +1,12 @@
 ghost use Rattle.std.specs.Prelude.{◌≡◌, ◌↔◌, length};
-ghost use Rattle.acra_base.specs.Causes.{Rose};
+ghost use Rattle.acra_devices.specs.Causes.{Rose};
 ghost use Rattle.audit_chain.specs.Verdicts.{WhereRead};
 ghost use Rattle.audit_core.specs.Outcomes.{Outcome, IsDueEnd};
 
 use crate::files::{FileFault, audit_key, master_key};
 use crate::report::report;
 use crate::status::{AuditStatus, FolderFile};
-use acra_base::{Sink, Source};
+use acra_devices::{Sink, Source};
 use std::alloc::Global;
 
 /// All that the verifier does under its words: reads the master key, the ring sealed under it and the log,

@@ -1,9 +1,9 @@
 ghost use Rattle.std.specs.Prelude.{◌≡◌, ◌≤◌, ℕ, List, Some, true, is_some, IsErrOf};
-ghost use Rattle.acra_base.specs.Causes.{Rose};
+ghost use Rattle.acra_devices.specs.Causes.{Rose};
 ghost use Rattle.key_files.specs.Master.{stem, master_of, MasterIs};
 
 use crate::whole::{WholeFault, read_whole};
-use acra_base::Source;
+use acra_devices::Source;
 use std::alloc::Global;
 
 /// 64 digits and a newline.

@@ -1,9 +1,10 @@
 ghost use Rattle.std.specs.Prelude.{◌≡◌, ◌≤◌, ℕ, List, Some, true, is_some, length, OnOk, IfOk, IsErrOf};
-ghost use Rattle.acra_base.specs.Causes.{Rose};
-ghost use Rattle.acra_base.specs.Known.{IsAtEnd};
+ghost use Rattle.acra_devices.specs.Causes.{Rose};
+ghost use Rattle.acra_devices.specs.Known.{IsAtEnd};
 ghost use Rattle.key_files.specs.Whole.{IsWholly};
 
-use acra_base::{Bytes, Source};
+use acra_base::Bytes;
+use acra_devices::Source;
 use std::alloc::Global;
 
 /// Why a file isn't read whole.

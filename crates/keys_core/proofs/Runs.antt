@@ -2,11 +2,11 @@
 use Rattle.std.proofs.Common.{◌≡◌, ℕ, ◌≤◌, ◌<◌, ◌^◌, arith, IfErr, List, ◌++◌, length, take, drop, Option, Some, None, IsSomeAnd, Result, Ok, Err, refl, sym, ap, subst, ◌∙◌}
 use Rattle.std.proofs.lemmas.List.{take-append-drop, append-nil, length-drop}
 use Rattle.rand_core.specs.Stream.{Stream}
-use Rattle.acra_base.specs.Known.{Grew}
+use Rattle.acra_devices.specs.Known.{Grew}
 use Rattle.keystore.specs.Rings.{RingState}
 use Rattle.keys_core.specs.declared.words.Ask.{Ask}
 use Rattle.keys_core.specs.declared.status.RingTrouble.{RingTrouble}
-use Rattle.acra_base.specs.Causes.{Rose}
+use Rattle.acra_devices.specs.Causes.{Rose}
 use Rattle.keys_core.specs.declared.status.KeyFile.TheVariants as files
 use Rattle.keys_core.specs.declared.status.KeysStatus.{KeysStatus}
 use Rattle.keys_core.specs.declared.status.KeysStatus.TheVariants as ends

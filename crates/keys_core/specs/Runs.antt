@@ -1,7 +1,7 @@
 -- A run of the key tool over its devices.
 use Rattle.std.specs.Prelude.{ℕ, ◌≡◌, ◌<◌, true, List, [], ◌∷◌, ◌++◌, length, Option, Some, None, is_some, Result, Ok, Err}
 use Rattle.rand_core.specs.Stream.{Stream}
-use Rattle.acra_base.specs.Causes.{Rose}
+use Rattle.acra_devices.specs.Causes.{Rose}
 use Rattle.keys_core.specs.declared.status.KeyFile.TheVariants as files
 use Rattle.keys_core.specs.declared.status.KeysStatus.{KeysStatus}
 use Rattle.keys_core.specs.declared.status.KeysStatus.TheVariants as ends

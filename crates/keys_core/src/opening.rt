@@ -1,5 +1,5 @@
 ghost use Rattle.std.specs.Prelude.{◌≡◌, ◌≤◌, [], take, drop, IfOk, IfErr};
-ghost use Rattle.acra_base.specs.Causes.{Rose};
+ghost use Rattle.acra_devices.specs.Causes.{Rose};
 ghost use Rattle.keystore.specs.Rings.{RingState};
 ghost use Rattle.ring_file.specs.Form.{IsFileRing};
 ghost use Rattle.keys_core.specs.Work.{new_ring, made_or_read, read_file};
@@ -7,7 +7,7 @@ ghost use Rattle.keys_core.specs.Told.{Drew, OpensAs};
 ghost use Rattle.keys_core.specs.declared.opening.Shut.TheVariants as shut;
 
 use crate::status::RingTrouble;
-use acra_base::Random;
+use acra_devices::Random;
 use acra_crypto::Aes256Gcm;
 use keystore::Ring;
 use ring_file::{RingFault, read_ring};

@@ -1,5 +1,5 @@
 use super::*;
-use acra_base::{MemKeeper, MemLink, SeedRandom, SureKeeper, SureLink, SureRandom};
+use acra_devices::{MemKeeper, MemLink, SeedRandom, SureKeeper, SureLink, SureRandom};
 use std::alloc::Global;
 use std::test::Fail;
 

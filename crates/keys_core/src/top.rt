@@ -5,7 +5,7 @@ ghost use Rattle.key_files.specs.Master.{master_of};
 ghost use Rattle.keys_core.specs.Work.{makes_ring, made_or_read, run_with, run_of};
 ghost use Rattle.keys_core.specs.Again.{changes, HasFile, MakesFile, KeepsRing};
 ghost use Rattle.keys_core.specs.Runs.{CausedBy, StopCaused, FinishCaused, MasterAs, PreparedAs, IsKept, FinishedAs, WhereTold, IsRun};
-ghost use Rattle.acra_base.specs.Causes.{HasCause};
+ghost use Rattle.acra_devices.specs.Causes.{HasCause};
 ghost use Rattle.keys_core.specs.declared.words.Ask.{Ask};
 ghost use Rattle.keys_core.specs.declared.status.KeysStatus.TheVariants as ends;
 ghost use Rattle.keys_core.specs.declared.work.Outcome.TheVariants as outcomes;
@@ -14,7 +14,8 @@ use crate::opening::{Shut, open_ring};
 use crate::status::{KeyFile, KeysStatus, RingTrouble};
 use crate::words::{Ask, ask_of};
 use crate::work::{Outcome, Stop, Work, done_work};
-use acra_base::{Bytes, Failed, Keeper, Random, Sink, Source, write_whole};
+use acra_base::Bytes;
+use acra_devices::{Failed, Keeper, Random, Sink, Source, write_whole};
 use key_files::{MasterFault, WholeFault, read_master, read_whole};
 use std::alloc::Global;
 

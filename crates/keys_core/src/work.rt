@@ -1,5 +1,5 @@
 ghost use Rattle.std.specs.Prelude.{◌≡◌, ◌≤◌, ◌++◌, take, drop, codes, true, Some, None, IfOk, IfErr};
-ghost use Rattle.acra_base.specs.Causes.{Rose};
+ghost use Rattle.acra_devices.specs.Causes.{Rose};
 ghost use Rattle.keys_core.specs.Work.{refused, changed_by, shown, new_keys, generated, destroyed_by, work_of};
 ghost use Rattle.keystore.specs.Answers.{retire_refusal};
 ghost use Rattle.keystore.specs.Kept.{IsKept};
@@ -11,7 +11,8 @@ ghost use Rattle.keys_core.specs.declared.work.Stop.TheVariants as stop;
 use crate::lines::{count_line, key_line, key_lines, refused_line};
 use crate::status::Refusal;
 use crate::words::Ask;
-use acra_base::{Bytes, ClientId, NoMemory, Random};
+use acra_base::{Bytes, ClientId, NoMemory};
+use acra_devices::Random;
 use acra_crypto::Aes256Gcm;
 use keystore::{AddRefusal, NewKeys, RetireRefusal, Ring};
 use ring_file::write_ring;

@@ -3,7 +3,7 @@ use Rattle.std.proofs.Common.{◌≡◌, ◌≢◌, ℕ, ◌+◌, ◌≤◌, inl
 use Rattle.std.specs.List.{flat_map}
 use Rattle.std.proofs.lemmas.List.{append-nil, length-append}
 use Rattle.rand_chacha.specs.ChaCha.{ChaCha}
-use Rattle.acra_base.specs.Known.{IsAtEnd}
+use Rattle.acra_devices.specs.Known.{IsAtEnd}
 use Rattle.pg_wire.specs.declared.frame.MessageFault.{MessageFault}
 use Rattle.pg_wire.specs.declared.frame.MessageFault.TheVariants as message
 use Rattle.pg_wire.specs.declared.frame.FrameFault.{FrameFault}

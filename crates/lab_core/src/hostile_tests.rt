@@ -1,6 +1,6 @@
 use super::*;
 use crate::testing::*;
-use acra_base::SureLink;
+use acra_devices::SureLink;
 use pg_wire::{FrameFault, MessageFault};
 use std::alloc::Global;
 use std::process::Abort;

@@ -4,7 +4,8 @@ ghost use Rattle.plain_tables.specs.Notes.{notes_with};
 ghost use Rattle.lab_session.specs.Session.{connection};
 
 use crate::testing::STARTUP;
-use acra_base::{ClientId, SureLink};
+use acra_base::ClientId;
+use acra_devices::SureLink;
 use lab_service::LabBackend;
 use lab_session::{Status, client_ring, first_session, notes_tables};
 use std::alloc::Global;

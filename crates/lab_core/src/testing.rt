@@ -1,7 +1,7 @@
 //! What the tests of sessions share.
 
 use super::*;
-use acra_base::{Failed, Source, SureLink};
+use acra_devices::{Failed, Source, SureLink};
 use std::alloc::Global;
 use std::test::Fail;
 

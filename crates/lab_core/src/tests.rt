@@ -1,6 +1,6 @@
 use super::*;
 use crate::testing::*;
-use acra_base::{MemLink, SureLink};
+use acra_devices::{MemLink, SureLink};
 use pg_wire::{FrameFault, MessageFault};
 use std::alloc::Global;
 use std::test::Fail;

@@ -1,10 +1,10 @@
 ghost use Rattle.std.specs.Prelude.{◌≡◌, ◌↔◌, ℕ, List, map, string_bytes};
-ghost use Rattle.acra_base.specs.Causes.{Rose};
+ghost use Rattle.acra_devices.specs.Causes.{Rose};
 ghost use Rattle.lab_core.specs.Words.{IsSession};
 ghost use Rattle.lab_core.specs.Headline.{WhereTold, Headline, IsDue, Untouched};
 
 use crate::words::session_words;
-use acra_base::{Sink, Source};
+use acra_devices::{Sink, Source};
 use lab_service::LabBackend;
 use lab_session::{Status, client_ring, first_session, notes_tables};
 use std::alloc::Global;

@@ -4,7 +4,7 @@ use Rattle.std.specs.Int.{w32, to_le_bytes}
 use Rattle.std.proofs.lemmas.List.{length-append, length-take}
 use Rattle.rand_core.specs.Steps.{word_bytes}
 use Rattle.rand_chacha.specs.ChaCha.{ChaCha, next_word}
-use Rattle.acra_base.specs.Draws.{drawn}
+use Rattle.acra_devices.specs.Draws.{drawn}
 
 le_4 : (n : ℕ) → length (to_le_bytes w32 n) ≡ 4
 le_4 n = refl

@@ -2,8 +2,8 @@
 use Rattle.std.proofs.Common.{◌≡◌, ℕ, ◌⊎◌, inl, inr, ◌&&◌, Bool, true, false, List, [], ◌++◌, map, Option, Result, Ok, Err, sym, ap, subst, ◌∙◌}
 use Rattle.std.specs.List.{flat_map}
 use Rattle.std.proofs.lemmas.List.{append-nil}
-use Rattle.acra_base.specs.Known.{Grew}
-use Rattle.acra_base.specs.Grows.{grew_nothing}
+use Rattle.acra_devices.specs.Known.{Grew}
+use Rattle.acra_devices.specs.Grows.{grew_nothing}
 use Rattle.pg_wire.specs.declared.front.Front.{Front}
 use Rattle.pg_wire.specs.declared.back.Back.{Back}
 use Rattle.pg_wire.specs.declared.frame.Side.TheVariants as side

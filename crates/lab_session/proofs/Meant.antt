@@ -5,7 +5,7 @@ use Rattle.std.specs.Cmp.{first_so}
 use Rattle.std.proofs.lemmas.Bool.{leb-true, and_parts}
 use Rattle.rand_chacha.specs.ChaCha.{ChaCha}
 use Rattle.hex.specs.Hex.{IsBytes}
-use Rattle.acra_base.specs.Draws.{drawn}
+use Rattle.acra_devices.specs.Draws.{drawn}
 use Rattle.sql_tree.specs.declared.condition.Operand.{Operand}
 use Rattle.sql_tree.specs.declared.condition.Operand.TheVariants as operand
 use Rattle.sql_tree.specs.declared.statement.Statement.{Statement}

@@ -4,8 +4,8 @@ use Rattle.std.specs.Result.{IsErr}
 use Rattle.std.specs.List.{flat_map}
 use Rattle.std.specs.Int.{w32, to_be_bytes}
 use Rattle.std.proofs.lemmas.List.{append-nil, length-append, take-append-drop}
-use Rattle.acra_base.specs.Known.{Grew}
-use Rattle.acra_base.specs.Grows.{grew_nothing, grew_then}
+use Rattle.acra_devices.specs.Known.{Grew}
+use Rattle.acra_devices.specs.Grows.{grew_nothing, grew_then}
 use Rattle.pg_wire.specs.declared.back.Back.{Back}
 use Rattle.pg_wire.specs.declared.back.Back.TheVariants as backs
 use Rattle.pg_wire.specs.declared.frame.Side.{Side}

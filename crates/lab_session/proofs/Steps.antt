@@ -5,8 +5,8 @@ use Rattle.std.specs.List.{flat_map}
 use Rattle.std.proofs.lemmas.Bool.{eqb-true}
 use Rattle.std.proofs.lemmas.List.{append-nil, length-append}
 use Rattle.rand_chacha.specs.ChaCha.{ChaCha}
-use Rattle.acra_base.specs.Known.{Grew, Shrank, IsAtEnd}
-use Rattle.acra_base.specs.Grows.{grew_nothing, grew_then, shrank_nothing, shrank_then}
+use Rattle.acra_devices.specs.Known.{Grew, Shrank, IsAtEnd}
+use Rattle.acra_devices.specs.Grows.{grew_nothing, grew_then, shrank_nothing, shrank_then}
 use Rattle.pg_wire.specs.declared.frame.MessageFault.{MessageFault}
 use Rattle.pg_wire.specs.declared.frame.Side.TheVariants as side
 use Rattle.pg_wire.specs.declared.front.Pair.{Pair}

@@ -1,7 +1,7 @@
 -- What a client asks next, and what answering it does.
 use Rattle.std.specs.Prelude.{ℕ, ◌≡◌, ◌⊎◌, Bool, true, false, Option, Result, Ok, Err, List, [], ◌∷◌, ◌++◌}
 use Rattle.rand_chacha.specs.ChaCha.{ChaCha}
-use Rattle.acra_base.specs.Known.{Grew}
+use Rattle.acra_devices.specs.Known.{Grew}
 use Rattle.pg_wire.specs.declared.front.Front.TheVariants as fronts
 use Rattle.pg_wire.specs.Streams.{Stream, behind}
 use Rattle.pg_wire.specs.Frames.{IsFrame, IsUnfinished}

@@ -1,7 +1,7 @@
 -- The key of a session's client, and the ring that lends it, by the seed.
 use Rattle.std.specs.Prelude.{ℕ, List, [], ◌∷◌, take, drop}
 use Rattle.rand_chacha.specs.ChaCha.{ChaCha}
-use Rattle.acra_base.specs.Draws.{drawn, seeded}
+use Rattle.acra_devices.specs.Draws.{drawn, seeded}
 use Rattle.acra_block.specs.Keys.{Key}
 use Rattle.keystore.specs.Rings.{ClientKeys, RingState}
 

@@ -1,7 +1,7 @@
 -- How a reply of the backend is read and shown, and how a request is sent on.
 use Rattle.std.specs.Prelude.{ℕ, ◌≡◌, ◌^◌, ◌⊎◌, ◌&&◌, Bool, false, Option, Some, None, Result, Ok, Err, List, [], ◌∷◌, map}
 use Rattle.std.specs.List.{flat_map, AllByRecursion}
-use Rattle.acra_base.specs.Known.{Grew}
+use Rattle.acra_devices.specs.Known.{Grew}
 use Rattle.pg_wire.specs.declared.front.Front.{Front}
 use Rattle.pg_wire.specs.declared.back.Back.{Back}
 use Rattle.pg_wire.specs.declared.frame.Side.TheVariants as side

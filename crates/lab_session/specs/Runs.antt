@@ -1,7 +1,7 @@
 -- What a session writes, request by request: the plaintext tables, the cells made for its values, and its replies.
 use Rattle.std.specs.Prelude.{ℕ, List, [], ◌∷◌, ◌++◌, Option, Some, None}
 use Rattle.rand_chacha.specs.ChaCha.{ChaCha}
-use Rattle.acra_base.specs.Draws.{drawn}
+use Rattle.acra_devices.specs.Draws.{drawn}
 use Rattle.table_rows.specs.Tables.{Table}
 use Rattle.plain_tables.specs.Notes.{notes_with}
 use Rattle.plain_tables.specs.Requests.{Request}

@@ -1,5 +1,5 @@
 ghost use Rattle.std.specs.Prelude.{◌≡◌, ◌≤◌, ℕ, List, [], ◌∷◌, false, IsErrOf};
-ghost use Rattle.acra_base.specs.Causes.{Rose};
+ghost use Rattle.acra_devices.specs.Causes.{Rose};
 ghost use Rattle.lab_service.specs.Replies.{ready};
 ghost use Rattle.plain_tables.specs.Reply.{reply_bytes};
 ghost use Rattle.pg_wire.specs.declared.back.Back.TheVariants.{EmptyQuery};
@@ -20,7 +20,8 @@ use crate::refusing::refuse;
 use crate::said::Said;
 use crate::send::send;
 use crate::stop::Stop;
-use acra_base::{ClientId, Sink, SureRandom};
+use acra_base::ClientId;
+use acra_devices::{Sink, SureRandom};
 use acra_block::{KeyView, OwnerKey};
 use keystore::Ring;
 use lab_service::{LabBackend, write_ready};

@@ -1,5 +1,5 @@
 ghost use Rattle.std.specs.Prelude.{◌≡◌, ◌≤◌, ◌+◌, ◌<◌, ◌^◌, length, IsErrOf};
-ghost use Rattle.acra_base.specs.Causes.{Rose};
+ghost use Rattle.acra_devices.specs.Causes.{Rose};
 ghost use Rattle.pg_wire.specs.Fronts.{IsFront, front_body};
 ghost use Rattle.plain_tables.specs.Shown.{shown_message};
 ghost use Rattle.lab_session.specs.Cells.{opened_by};
@@ -8,7 +8,7 @@ ghost use Rattle.lab_session.specs.Relaying.{IsIdle, ForwardGives, CanSend};
 
 use crate::relay::relay;
 use crate::stop::Stop;
-use acra_base::Sink;
+use acra_devices::Sink;
 use acra_block::KeyView;
 use lab_service::LabBackend;
 use pg_wire::{Front, write_front};

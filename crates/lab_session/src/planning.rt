@@ -8,7 +8,8 @@ ghost use Rattle.lab_session.specs.Answering.{IsPlan, sent_text};
 
 use crate::plan::Plan;
 use crate::rewriting::{cell_for, protected_columns, rewritten_insert};
-use acra_base::{Bytes, NoMemory, SureRandom};
+use acra_base::{Bytes, NoMemory};
+use acra_devices::SureRandom;
 use acra_block::OwnerKey;
 use pg_wire::Front;
 use sql_tree::{Statement, print};

@@ -1,5 +1,5 @@
 ghost use Rattle.std.specs.Prelude.{◌≡◌, ◌≤◌, ◌∷◌, [], IfOk, IsErrOf};
-ghost use Rattle.acra_base.specs.Causes.{Rose};
+ghost use Rattle.acra_devices.specs.Causes.{Rose};
 ghost use Rattle.lab_service.specs.Replies.{ready};
 ghost use Rattle.plain_tables.specs.Reply.{reply_bytes};
 ghost use Rattle.plain_tables.specs.Refusals.{refusal_code, refusal_text, refusal_message};
@@ -8,7 +8,8 @@ ghost use Rattle.lab_session.specs.Relaying.{Sends};
 
 use crate::send::send;
 use crate::stop::Stop;
-use acra_base::{Bytes, NoMemory, Sink};
+use acra_base::{Bytes, NoMemory};
+use acra_devices::Sink;
 use lab_service::{write_error, write_ready};
 use plain_tables::Refusal;
 use std::alloc::Global;

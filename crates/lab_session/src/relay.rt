@@ -1,5 +1,5 @@
 ghost use Rattle.std.specs.Prelude.{◌≡◌, ◌≤◌, List, ℕ, map, IfOk, OnErr, IsErrOf};
-ghost use Rattle.acra_base.specs.Causes.{Rose};
+ghost use Rattle.acra_devices.specs.Causes.{Rose};
 ghost use Rattle.pg_wire.specs.declared.back.Back.{Back as Message};
 ghost use Rattle.pg_wire.specs.Backs.{back_frame};
 ghost use Rattle.lab_service.specs.Replies.{IsWritable};
@@ -11,7 +11,8 @@ ghost use Rattle.lab_session.specs.Relaying.{IsReply, Holds, NextIs, Sends};
 use crate::send::send;
 use crate::showing::show;
 use crate::stop::Stop;
-use acra_base::{NoMemory, Sink};
+use acra_base::NoMemory;
+use acra_devices::Sink;
 use acra_block::KeyView;
 use pg_wire::{Back, Framer, NextFault, ReadBody, Side, read_back, write_back};
 use std::alloc::Global;

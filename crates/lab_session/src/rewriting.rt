@@ -4,7 +4,8 @@ ghost use Rattle.sql_tree.specs.declared.statement.Statement.TheVariants as stat
 ghost use Rattle.plain_tables.specs.Meanings.{has_short_strings};
 ghost use Rattle.lab_session.specs.Runs.{cell_for, drawn_for};
 
-use acra_base::{Bytes, Name, NoMemory, Sequence, SureRandom};
+use acra_base::{Bytes, Name, NoMemory, Sequence};
+use acra_devices::SureRandom;
 use acra_block::{CellKind, OwnerKey, seal_cell};
 use acra_crypto::Aes256Gcm;
 use sql_tree::{Item, Items, Operand, Statement, Whole};

@@ -1,7 +1,8 @@
 ghost use Rattle.std.specs.Prelude.{◌≡◌, take, drop, length, ◌+◌, ◌≤◌, IfOk};
 ghost use Rattle.lab_session.specs.ClientKey.{ring_drawn};
 
-use acra_base::{ClientId, NoMemory, SureRandom};
+use acra_base::{ClientId, NoMemory};
+use acra_devices::SureRandom;
 use keystore::{AddRefusal, NewKeys, Ring};
 use std::alloc::Global;
 

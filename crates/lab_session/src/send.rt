@@ -1,9 +1,9 @@
 ghost use Rattle.std.specs.Prelude.{◌≡◌, ◌≤◌, IsErrOf};
-ghost use Rattle.acra_base.specs.Causes.{Rose};
+ghost use Rattle.acra_devices.specs.Causes.{Rose};
 ghost use Rattle.lab_session.specs.Relaying.{Sends};
 
 use crate::stop::Stop;
-use acra_base::{Sink, write_whole};
+use acra_devices::{Sink, write_whole};
 
 /// Sends the client all of these bytes.
 pub fn send<K: Sink>(output: &mut K, bytes: &[u8]) -> Result<(), Stop>

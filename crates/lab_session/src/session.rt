@@ -1,5 +1,5 @@
 ghost use Rattle.std.specs.Prelude.{◌≡◌, ◌≤◌, ◌<◌, ◌+◌, ◌^◌, ℕ, List, [], ◌++◌, Some, IsSome, IfOk, OnErr, IsErrOf};
-ghost use Rattle.acra_base.specs.Causes.{Rose};
+ghost use Rattle.acra_devices.specs.Causes.{Rose};
 ghost use Rattle.plain_tables.specs.Requests.{Request};
 ghost use Rattle.lab_service.specs.Sessions.{new_session};
 ghost use Rattle.plain_tables.specs.Notes.{notes_with};
@@ -13,7 +13,8 @@ use crate::answering::answer;
 use crate::said::{Next, next_said};
 use crate::status::Status;
 use crate::stop::Stop;
-use acra_base::{ClientId, Sink, Source, SureRandom};
+use acra_base::ClientId;
+use acra_devices::{Sink, Source, SureRandom};
 use keystore::Ring;
 use lab_service::LabBackend;
 use pg_wire::{Framer, Side};

@@ -1,5 +1,6 @@
 use super::*;
-use acra_base::{Bytes, Random, SureRandom};
+use acra_base::Bytes;
+use acra_devices::{Random, SureRandom};
 use std::alloc::Global;
 use std::process::Abort;
 use std::test::*;

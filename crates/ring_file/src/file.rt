@@ -8,7 +8,8 @@ ghost use Rattle.ring_file.specs.Files.{file_body, IsReadBody, IsReadFile, Spell
 use crate::body::ring_of;
 use crate::fields::Unread;
 use crate::writing::body_of;
-use acra_base::{Aead, Bytes, NoMemory};
+use acra_base::{Bytes, NoMemory};
+use acra_crypto::Aead;
 use keystore::Ring;
 use std::alloc::Global;
 use thiserror::Error;

@@ -1,5 +1,6 @@
 use super::*;
-use acra_base::{Aead, ClientId, TrialAead};
+use acra_base::ClientId;
+use acra_crypto::{Aead, TrialAead};
 use keystore::{NewKeys, Ring};
 use std::alloc::Global;
 use std::test::Fail;

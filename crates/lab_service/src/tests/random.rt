@@ -7,7 +7,7 @@ use super::plain::{
     Column, Condition, Given, Key, Plan, Query, Row, Sense, Set, Shape, TEXTS, Test, Value, run,
 };
 use super::*;
-use acra_base::SureRandom;
+use acra_devices::SureRandom;
 use sql_tree::Op;
 use std::process::Abort;
 

@@ -2,7 +2,7 @@
 
 ghost use Rattle.std.specs.Prelude.{◌<◌, length};
 
-use acra_base::SureRandom;
+use acra_devices::SureRandom;
 use std::alloc::Global;
 use std::test::Fail;
 

@@ -1,5 +1,5 @@
 use Rattle.std.proofs.Common.{◌-◌, ◌≤◌, length}
-use Rattle.acra_base.specs.Known.{Shrank}
+use Rattle.acra_devices.specs.Known.{Shrank}
 use Rattle.key_files.proofs.whole.read_whole.Given as goal
 
 abbrev pub invariant-pieces : goal.invariant-pieces

@@ -1,0 +1,10 @@
+pub mod Known
+pub mod Pieces
+pub mod Grows
+pub mod Causes
+pub mod Wires
+pub mod Memory
+pub mod Shelves
+pub mod Keepers
+pub mod Seeding
+pub mod Draws

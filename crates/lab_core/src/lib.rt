@@ -9,12 +9,3 @@ mod words;
 pub use example::example_replies;
 pub use lab_session::Status;
 pub use top::lab_top;
-
-#[cfg(test)]
-mod hostile_tests;
-#[cfg(test)]
-mod stored_tests;
-#[cfg(test)]
-mod testing;
-#[cfg(test)]
-mod tests;

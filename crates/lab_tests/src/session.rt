@@ -1,4 +1,4 @@
-use super::*;
+use lab_core::{Status, lab_top};
 use crate::testing::*;
 use acra_devices::{MemLink, SureLink};
 use pg_wire::{FrameFault, MessageFault};

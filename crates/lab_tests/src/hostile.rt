@@ -1,4 +1,4 @@
-use super::*;
+use lab_core::Status;
 use crate::testing::*;
 use acra_devices::SureLink;
 use pg_wire::{FrameFault, MessageFault};

@@ -1,6 +1,6 @@
 //! What the tests of sessions share.
 
-use super::*;
+use lab_core::{Status, lab_top};
 use acra_devices::{Failed, Source, SureLink};
 use std::alloc::Global;
 use std::test::Fail;

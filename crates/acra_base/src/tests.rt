@@ -41,5 +41,8 @@ fn lists(rt: HostRuntime) -> Result<(), Fail> {
     names.push(Name::new(Bytes::copied(alloc, b"notes")?))?;
     assert_eq!(rt; names.len(), 1);
     assert_eq!(rt; names.as_slice()[0].as_slice(), b"notes".as_slice());
+    let again = names.clone()?;
+    assert_eq!(rt; again.len(), 1);
+    assert_eq!(rt; again.as_slice()[0].as_slice(), b"notes".as_slice());
     Ok(())
 }

@@ -81,12 +81,6 @@ fn stored_text(alloc: Global, bytes: &[u8]) -> Result<Bytes, NoMemory>
     Ok(text)
 }
 
-fn copied_name(alloc: Global, name: &Name) -> Result<Name, NoMemory>
-    ensures { IfOk result (λ copy. copy ≡ name.now) }
-{
-    Ok(Name::new(Bytes::copied(alloc, name.as_slice())?))
-}
-
 fn rewritten_value(alloc: Global, value: &Operand, cell: &[u8]) -> Result<Operand, NoMemory>
     ensures { IfOk result (λ new. new ≡ rewritten_value cell.now value.now) }
 {
@@ -95,8 +89,8 @@ fn rewritten_value(alloc: Global, value: &Operand, cell: &[u8]) -> Result<Operan
         Operand::Number(number) => Ok(Operand::Number(Whole::new(number.get()))),
         Operand::NullValue => Ok(Operand::NullValue),
         Operand::Parameter(number) => Ok(Operand::Parameter(*number)),
-        Operand::Column(name) => Ok(Operand::Column(copied_name(alloc, name)?)),
-        Operand::Prefix33(name) => Ok(Operand::Prefix33(copied_name(alloc, name)?)),
+        Operand::Column(name) => Ok(Operand::Column(name.clone()?)),
+        Operand::Prefix33(name) => Ok(Operand::Prefix33(name.clone()?)),
     }
 }
 
@@ -128,28 +122,6 @@ fn rewritten_rows(
     Ok(new)
 }
 
-fn copied_list(alloc: Global, names: &[Name]) -> Result<Sequence<Name>, NoMemory>
-    ensures { IfOk result (λ copy. copy ≡ names.now) }
-{
-    let mut copy = Sequence::new(alloc);
-    'names: for name in names {
-        copy.push(copied_name(alloc, name)?)?;
-    }
-    Ok(copy)
-}
-
-fn copied_columns(
-    alloc: Global,
-    columns: &Option<Sequence<Name>>,
-) -> Result<Option<Sequence<Name>>, NoMemory>
-    ensures { IfOk result (λ copy. copy ≡ columns.now) }
-{
-    match columns {
-        Some(names) => Ok(Some(copied_list(alloc, names.as_slice())?)),
-        None => Ok(None),
-    }
-}
-
 /// An INSERT with this cell in the place of its string.
 pub fn rewritten_insert(
     alloc: Global,
@@ -160,8 +132,8 @@ pub fn rewritten_insert(
 ) -> Result<Statement, NoMemory>
     ensures { IfOk result (λ new. new ≡ rewritten cell.now (statement.Insert table.now columns.now rows.now)) }
 {
-    let table = copied_name(alloc, table)?;
-    let columns = copied_columns(alloc, columns)?;
+    let table = table.clone()?;
+    let columns = columns.clone()?;
     let rows = rewritten_rows(alloc, rows, cell)?;
     Ok(Statement::Insert {
         table,

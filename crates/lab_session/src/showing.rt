@@ -53,15 +53,6 @@ fn described_fields(
     Ok(shown)
 }
 
-fn copied(alloc: Global, cell: &Option<Bytes>) -> Result<Option<Bytes>, NoMemory>
-    ensures { IfOk result (λ copy. copy ≡ cell.now) }
-{
-    match cell {
-        Some(text) => Ok(Some(Bytes::copied(alloc, text.as_slice())?)),
-        None => Ok(None),
-    }
-}
-
 // A protected cell as it is shown: opened, or as it is where it doesn't open.
 fn opened_cell(
     alloc: Global,
@@ -92,7 +83,7 @@ fn opened_cells(
         let cell = if is_protected(protected, place) {
             opened_cell(alloc, view, &cells[place])?
         } else {
-            copied(alloc, &cells[place])?
+            cells[place].clone()?
         };
         shown.push(cell)?;
     }

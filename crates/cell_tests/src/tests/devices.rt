@@ -1,4 +1,9 @@
-use super::*;
+//! Devices in memory: what they tell, and their listed calls, which fail.
+
+use acra_devices::{
+    Failed, Keeper, MemKeeper, MemLink, Random, SeedRandom, Sink, Source, SureKeeper, SureLink,
+    SureRandom, WriteFault, write_whole,
+};
 use std::test::Fail;
 
 // The key stream of ChaCha20 (20 rounds) for the key 1, 0, 0, .. and a nonce and counter of 0, as

@@ -1,8 +1,12 @@
-use super::*;
+//! Rings: clients, leases and phases.
+
 use acra_base::ClientId;
+use keystore::{
+    AddRefusal, DrainRefusal, Lease, LeaseRefusal, NewKeys, NotAbandoned, RetireRefusal, Ring,
+    RotateRefusal,
+};
 use std::alloc::Global;
-use std::process::Abort;
-use std::test::*;
+use std::test::Fail;
 
 fn client(name: &str) -> Result<ClientId, Fail> {
     Ok(ClientId::read(name.as_bytes()).ok().ok_or("no client")?)

@@ -1,9 +1,15 @@
-use super::*;
+//! Cells: what another program makes of the same keys and draws, what they open to, and each bit changed.
+
+use super::{array, bytes};
 use acra_base::{ClientId, Sequence};
+use acra_block::{
+    CellKind, Container, KeyView, LiveKey, Opened, OwnerKey, PlainPart, key_id, open_cell,
+    plain_part, read_container, seal_cell,
+};
 use acra_crypto::Aes256Gcm;
 use std::alloc::Global;
 use std::process::Abort;
-use std::test::*;
+use std::test::Fail;
 
 const KEY: &str = "2308b95cf8d0bb7d202d2102780ea3528f1cb48560f76b20f382b942500fceac";
 
@@ -33,21 +39,6 @@ const MASKED: CellKind = CellKind::Masked {
     chars: false,
 };
 
-/// The bytes of hexadecimal digits.
-fn bytes(alloc: Global, digits: &str) -> Result<Vec<u8>, Fail> {
-    Ok(hex::decode(alloc, digits).ok().ok_or("no digits")?)
-}
-
-/// 32 bytes of hexadecimal digits.
-fn bytes_32(alloc: Global, digits: &str) -> Result<[u8; 32], Fail> {
-    let bytes = bytes(alloc, digits)?;
-    let mut all = [0; 32];
-    for (place, byte) in all.iter_mut().zip(bytes.iter()) {
-        *place = *byte;
-    }
-    Ok(all)
-}
-
 /// The client `app`, with the key of this id.
 fn owner_key(alloc: Global) -> Result<OwnerKey, Fail> {
     let app = ClientId::read(b"app").ok().ok_or("no client")?;
@@ -55,7 +46,7 @@ fn owner_key(alloc: Global) -> Result<OwnerKey, Fail> {
     for (place, byte) in search.iter_mut().zip(0..32u8) {
         *place = byte;
     }
-    Ok(OwnerKey::new(app, 1, bytes_32(alloc, KEY)?, search))
+    Ok(OwnerKey::new(app, 1, array(&bytes(alloc, KEY)?), search))
 }
 
 /// What the client's keys are, below this id.
@@ -63,7 +54,7 @@ fn view(alloc: Global, next_id: u64, has_key: bool) -> Result<KeyView, Fail> {
     let who = ClientId::read(b"app").ok().ok_or("no client")?;
     let mut keys = Sequence::new(alloc);
     if has_key {
-        let key = bytes_32(alloc, KEY)?;
+        let key = array(&bytes(alloc, KEY)?);
         keys.push(LiveKey { id: 1, key }).ok().ok_or("no memory")?;
     }
     Ok(KeyView { who, next_id, keys })
@@ -71,11 +62,7 @@ fn view(alloc: Global, next_id: u64, has_key: bool) -> Result<KeyView, Fail> {
 
 /// The cell of a short ASCII value.
 fn cell(rt: &impl Abort, alloc: Global, kind: CellKind, plain: &str) -> Result<Vec<u8>, Fail> {
-    let drawn = bytes(alloc, DRAWS)?;
-    let mut draws = [0; 56];
-    for (place, byte) in draws.iter_mut().zip(drawn.iter()) {
-        *place = *byte;
-    }
+    let draws = array(&bytes(alloc, DRAWS)?);
     assert!(rt; plain.len() < 100);
     let mut out = Vec::new(alloc);
     let key = owner_key(alloc)?;
@@ -168,24 +155,46 @@ fn masked_cards(rt: HostRuntime) -> Result<(), Fail> {
     Ok(())
 }
 
+/// The plain part of a text that is cut by characters. The cell opens to the text.
+fn part_of(
+    rt: &impl Abort,
+    alloc: Global,
+    left: bool,
+    length: u32,
+    text: &str,
+) -> Result<Vec<u8>, Fail> {
+    let kind = CellKind::Masked {
+        left,
+        length,
+        chars: true,
+    };
+    let made = cell(rt, alloc, kind, text)?;
+    let (answer, plain) = opened(alloc, kind, &view(alloc, 2, true)?, &made)?;
+    assert_eq!(rt; answer, Opened::Plain);
+    assert_eq!(rt; plain.as_slice(), text.as_bytes());
+    let part = plain_part(&made).ok_or("no plain part")?;
+    assert_eq!(rt; part.left, left);
+    assert!(rt; part.start <= part.end && part.end <= made.len());
+    Ok(Vec::from_slice(alloc, &made[part.start..part.end])?)
+}
+
+/// Characters of 1 to 4 bytes: the plain part of a length from the left or from the right.
+const CHARACTERS: [(bool, u32, &str); 8] = [
+    (true, 0, ""),
+    (true, 1, "a"),
+    (true, 2, "aé"),
+    (true, 3, "aé€"),
+    (true, 4, ""),
+    (false, 1, "𝄞"),
+    (false, 2, "€𝄞"),
+    (false, 3, "é€𝄞"),
+];
+
 #[test]
 fn characters(rt: HostRuntime) -> Result<(), Fail> {
-    // Characters of 1 to 4 bytes: the plain part of a length from the left and from the right.
-    let text = "aé€𝄞";
-    let cases: [(bool, u32, &str); 8] = [
-        (true, 0, ""),
-        (true, 1, "a"),
-        (true, 2, "aé"),
-        (true, 3, "aé€"),
-        (true, 4, ""),
-        (false, 1, "𝄞"),
-        (false, 2, "€𝄞"),
-        (false, 3, "é€𝄞"),
-    ];
-    for (left, length, wanted) in cases {
-        let (part, rest) = cut::cut(left, length as usize, true, text.as_bytes());
-        assert!(rt; part == wanted.as_bytes(), "{left} {length}");
-        assert_eq!(rt; part.len().wrapping_add(rest.len()), text.len());
+    for (left, length, wanted) in CHARACTERS {
+        let part = part_of(&rt, rt.alloc(), left, length, "aé€𝄞")?;
+        assert_eq!(rt; part.as_slice(), wanted.as_bytes(), "{left} {length}");
     }
     Ok(())
 }

@@ -20,6 +20,3 @@ pub use kind::CellKind;
 pub use laws::{one_form, plain_is_spelled, sealed_opens};
 pub use opening::{Opened, open_cell};
 pub use parts::{PlainPart, key_id, plain_part};
-
-#[cfg(test)]
-mod tests;

@@ -24,6 +24,3 @@ pub use random::{Random, SureRandom, SystemRandom};
 pub use seeding::SeedRandom;
 pub use stream::{ReaderSource, WriterSink};
 pub use whole::{WriteFault, write_whole};
-
-#[cfg(test)]
-mod tests;

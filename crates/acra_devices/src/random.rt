@@ -104,34 +104,3 @@ impl<S: RandomSource + Drop> Random for SystemRandom<S> {
         }
     }
 }
-
-#[cfg(test)]
-mod tests {
-    use super::*;
-    use std::io;
-
-    /// No bytes come.
-    #[derive(Drop)]
-    struct Dry;
-
-    impl RandomSource for Dry {
-        fn fill_bytes(&self, _buf: &mut [u8]) -> io::Result<()> {
-            Err(io::Error::from(io::ErrorKind::Other))
-        }
-    }
-
-    #[test]
-    fn draws_of_the_system(rt: HostRuntime) {
-        let mut random = SystemRandom::new(rt);
-        let mut first = [0; 32];
-        let mut second = [0; 32];
-        assert_eq!(rt; random.draw(&mut first), Ok(()));
-        assert_eq!(rt; random.draw(&mut second), Ok(()));
-        assert_ne!(rt; first, second);
-        assert_eq!(rt; random.faults, 0);
-
-        let mut random = SystemRandom::new(Dry);
-        assert_eq!(rt; random.draw(&mut first), Err(Failed));
-        assert_eq!(rt; random.faults, 1);
-    }
-}

@@ -17,6 +17,3 @@ pub use laws::{one_answer, places_by_numbers};
 pub use plain_values::{MOST_PLAIN, ValueRefusal, canonical_binary, canonical_text, spell};
 pub use policy::{Column, ColumnRule, Policy, Shape, Strangers, Table};
 pub use read::{ConfigRefusal, NO_PLACE, PolicyFault, read_policy};
-
-#[cfg(test)]
-mod tests;

@@ -17,6 +17,3 @@ pub use refusals::{
     AddRefusal, DrainRefusal, LeaseRefusal, NotAbandoned, RetireRefusal, RotateRefusal,
 };
 pub use ring::Ring;
-
-#[cfg(test)]
-mod tests;

@@ -13,6 +13,3 @@ pub use reading::{MOST_PLAIN, canonical_binary, canonical_text, read_number, rea
 pub use refusal::ValueRefusal;
 pub use spelling::spell;
 pub use texts::is_plain_text;
-
-#[cfg(test)]
-mod tests;

@@ -1,9 +1,8 @@
 -- What becomes of the tokens that were read.
 use Rattle.std.proofs.Common.{◌≡◌, ℕ, zero, suc, ◌+◌, ◌-◌, ◌≤◌, ◌<◌, Bool, true, false, List, [], ◌∷◌, ◌++◌, length, length-append, map, take, drop, append-nil, refl, sym, ap, ◌∙◌, subst, arith, ◌⊎◌, inl, inr}
-use Rattle.std.specs.Prelude.{◌&&◌, ◌||◌, ◌^◌, ◌↔◌, not, nat_eq, nat_le, nat_lt, codes, Contains, IsTrue, IsNone, MatchOption, Option, Some, None, option_map, Result, Ok, Err, if◌then◌else◌}
-use Rattle.std.specs.List.{list_all, AllByRecursion}
+use Rattle.std.specs.Prelude.{◌&&◌, ◌||◌, ◌↔◌, not, nat_eq, nat_le, nat_lt, codes, Contains, IsTrue, IsNone, MatchOption, Option, Some, None, option_map, Result, Ok, Err, if◌then◌else◌}
+use Rattle.std.specs.List.{list_all}
 use Rattle.std.specs.Cmp.Lexicographic.{pointwise, same_text}
-use Rattle.std.proofs.lemmas.Cmp.{nat_list_eq_equiv}
 use Rattle.std.proofs.lemmas.Bool.{le-leb, leb-true, ltb-true, ltb-false, eq-eqb}
 use Rattle.std.proofs.lemmas.List.{take-append-drop, length-map}
 use Rattle.std.proofs.Math.Seq.{take-append_seam, drop-append_seam}
@@ -18,29 +17,30 @@ use Rattle.sql_tree.specs.declared.statement.Statement.{Statement}
 use Rattle.sql_tree.specs.declared.statement.Statement.TheVariants as statement
 use Rattle.sql_tree.specs.Conditions.{Cond, cond_tree, cond_open}
 use Rattle.sql_tree.specs.Grammar as grammar
-use Rattle.sql_tree.specs.Grammar.{Body, body_qualifiers, body_table, body_tree, Text, text_tokens, text_tree}
+use Rattle.sql_tree.specs.Grammar.{Body, body_qualifiers, body_tree, Text, text_tokens, text_tree}
 use Rattle.sql_tree.specs.Depths.{filter_open, text_open, statement_depth}
 use Rattle.sql_tree.specs.Spelling.{Spells, IsQualified, IsGapless, IsSettable, parameters, tokens_of}
-use Rattle.sql_parser.specs.declared.made.Reading.{Reading}
-use Rattle.sql_parser.specs.Judging.{agree, qualifiers_agree, WasRead, TokensSpell, TokensFail, TokensGive, is_deep, refusal_of, refusal_after}
+use Rattle.sql_reading.specs.declared.made.Reading.{Reading}
+use Rattle.sql_parser.specs.Judging.{WasRead, TokensSpell, TokensFail, TokensGive, is_deep, refusal_of, refusal_after}
 use Rattle.sql_parser.specs.Judging as judging
-use Rattle.sql_parser.specs.Made.{kept, reading, whole_reading}
+use Rattle.sql_reading.specs.Made.{kept, reading, whole_reading}
 use Rattle.sql_tokens.specs.Lexing.{Lexes}
-use Rattle.sql_parser.specs.declared.refusal.SqlKind.{SqlKind}
-use Rattle.sql_parser.specs.declared.refusal.SqlKind.TheVariants as kind
-use Rattle.sql_parser.specs.declared.refusal.ParseFault.{ParseFault}
-use Rattle.sql_parser.specs.declared.refusal.ParseFault.TheVariants as fault
-use Rattle.sql_parser.specs.Outcome.{Begins, IsFault, place_after, is_shallow, Outcome, IsOutcome, IsTold, Tells}
-use Rattle.sql_parser.specs.Cursor.{AreSmall}
-use Rattle.sql_parser.proofs.Small.{lexed_small}
-use Rattle.sql_parser.proofs.Outcomes.{one_outcome}
-use Rattle.sql_parser.specs.Outside.{is_outside, is_settable, sets_other, is_set, set_place, outside_place}
-use Rattle.sql_parser.specs.Passes.{before_dots, numbers}
-use Rattle.sql_parser.specs.Productions.{whole}
-use Rattle.sql_parser.specs.Reads.{Reads, Gives}
-use Rattle.sql_parser.proofs.Dots.{text_dots}
-use Rattle.sql_parser.proofs.Numbers.{text_numbers}
-use Rattle.sql_parser.proofs.Wholes.{Stops, one_derivation, derives, left_over, refused}
+use Rattle.sql_outcomes.specs.declared.refusal.SqlKind.{SqlKind}
+use Rattle.sql_outcomes.specs.declared.refusal.SqlKind.TheVariants as kind
+use Rattle.sql_outcomes.specs.declared.refusal.ParseFault.{ParseFault}
+use Rattle.sql_outcomes.specs.declared.refusal.ParseFault.TheVariants as fault
+use Rattle.sql_outcomes.specs.Outcome.{Begins, IsFault, place_after, is_shallow, Outcome, IsOutcome, IsTold, Tells}
+use Rattle.sql_reading.specs.Cursor.{AreSmall}
+use Rattle.sql_reading.proofs.Small.{lexed_small}
+use Rattle.sql_derivations.proofs.Outcomes.{one_outcome}
+use Rattle.sql_outcomes.specs.Outside.{is_outside, is_settable, sets_other, is_set, set_place, outside_place}
+use Rattle.sql_readers.specs.Passes.{before_dots, numbers, qualifiers_agree}
+use Rattle.sql_readers.specs.Productions.{whole}
+use Rattle.sql_readers.specs.Reads.{Reads}
+use Rattle.sql_reading.specs.Gives.{Gives}
+use Rattle.sql_derivations.proofs.Dots.{text_dots}
+use Rattle.sql_derivations.proofs.Numbers.{text_numbers}
+use Rattle.sql_derivations.proofs.Wholes.{Stops, one_derivation, derives, left_over, refused}
 
 -- ---- the names before columns
 

@@ -1,7 +1,5 @@
 -- What becomes of the tokens of a text whose first tokens begin a statement of the profile.
-use Rattle.std.specs.Prelude.{ℕ, zero, suc, ◌-◌, length, drop, ◌≡◌, nat_eq, nat_lt, ◌||◌, Bool, true, false, List, [], Option, Some, None, Result, Ok, Err}
-use Rattle.std.specs.List.{list_all}
-use Rattle.std.specs.Cmp.Lexicographic.{pointwise}
+use Rattle.std.specs.Prelude.{ℕ, zero, suc, ◌-◌, length, drop, ◌≡◌, nat_lt, ◌||◌, Bool, true, false, List, [], Option, Some, None, Result, Ok, Err}
 use Rattle.sql_tokens.specs.declared.token.Token.{Token}
 use Rattle.sql_tokens.specs.declared.token.Placed.{Placed}
 use Rattle.sql_tree.specs.declared.statement.Statement.{Statement}
@@ -9,25 +7,13 @@ use Rattle.sql_tree.specs.declared.statement.Statement.TheVariants as statement
 use Rattle.sql_tree.specs.Depths.{statement_depth}
 use Rattle.sql_tree.specs.Grammar.{Text, text_tokens}
 use Rattle.sql_tree.specs.Spelling.{Spells, tokens_of}
-use Rattle.sql_parser.specs.declared.made.Reading.{Reading}
-use Rattle.sql_parser.specs.declared.refusal.SqlKind.{SqlKind}
-use Rattle.sql_parser.specs.declared.refusal.SqlKind.TheVariants as kind
-use Rattle.sql_parser.specs.declared.refusal.ParseFault.{ParseFault}
-use Rattle.sql_parser.specs.declared.refusal.ParseFault.TheVariants as fault
-use Rattle.sql_parser.specs.Made.{whole_reading}
-use Rattle.sql_parser.specs.Outcome.{IsFault, place_after, is_shallow}
-use Rattle.sql_parser.specs.Passes.{before_dots}
-
--- the names before dots are the table's
-abbrev pub agree : List ℕ → List Token → Bool
-agree table ts = list_all (λ q. pointwise nat_eq q table) (before_dots ts)
-
--- where the statement has a table with columns
-abbrev pub qualifiers_agree : Statement → List Token → Bool
-qualifiers_agree (statement.Select table items cond order limit offset) ts = agree table ts
-qualifiers_agree (statement.Update table sets cond) ts = agree table ts
-qualifiers_agree (statement.Delete table cond) ts = agree table ts
-qualifiers_agree _ ts = true
+use Rattle.sql_reading.specs.declared.made.Reading.{Reading}
+use Rattle.sql_outcomes.specs.declared.refusal.SqlKind.{SqlKind}
+use Rattle.sql_outcomes.specs.declared.refusal.SqlKind.TheVariants as kind
+use Rattle.sql_outcomes.specs.declared.refusal.ParseFault.{ParseFault}
+use Rattle.sql_outcomes.specs.declared.refusal.ParseFault.TheVariants as fault
+use Rattle.sql_reading.specs.Made.{whole_reading}
+use Rattle.sql_outcomes.specs.Outcome.{IsFault, place_after, is_shallow}
 
 -- too much is open at once, or nodes stand too deep
 abbrev pub is_deep : Reading → Bool

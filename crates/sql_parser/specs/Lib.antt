@@ -1,14 +1,2 @@
-pub mod Readers
-pub mod Looks
-pub mod Productions
-pub mod Reads
-pub mod Made
-pub mod Outside
-pub mod Outcome
-pub mod Passes
-pub mod Cursor
-pub mod Levels
-pub mod Laws
-pub mod Tests
-pub mod Clauses
 pub mod Judging
+pub mod Rewriting

@@ -1,23 +1,13 @@
-//! Reading tokens as statements.
+//! The parser of the SQL profile: from a text to its statement, to its canonical text, or to its refusal with the place.
 #![tactic(auto)]
 
-mod comparison;
-mod conditions;
-mod cursor;
-mod depth;
-mod items;
-mod laws;
-mod levels;
-mod made;
 mod outside;
-mod parameters;
 mod parsing;
-mod parts;
-mod qualifiers;
-mod refusal;
-mod statements;
-mod stop;
+mod rewriting;
 
-pub use laws::{canonical_text_is_parsed, one_outcome, one_statement, spelled_is_statement};
 pub use parsing::parse;
-pub use refusal::{ParseFault, SqlKind, SqlRefusal};
+pub use rewriting::rewrite;
+pub use sql_derivations::{
+    canonical_text_is_parsed, one_outcome, one_statement, spelled_is_statement,
+};
+pub use sql_outcomes::{ParseFault, SqlKind, SqlRefusal};

@@ -4,8 +4,8 @@ ghost use Rattle.std.specs.Prelude.{◌≡◌, nat_eq};
 ghost use Rattle.std.specs.List.{list_any};
 ghost use Rattle.std.specs.Cmp.Lexicographic.{pointwise};
 ghost use Rattle.sql_tokens.specs.Seen.{seen};
-ghost use Rattle.sql_parser.specs.Outside.{outside_words};
-ghost use Rattle.sql_parser.specs.Outside as outside;
+ghost use Rattle.sql_outcomes.specs.Outside.{outside_words};
+ghost use Rattle.sql_outcomes.specs.Outside as outside;
 
 use sql_tokens::{Keyword, TokenRef, TokenSlice};
 

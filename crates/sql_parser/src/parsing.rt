@@ -2,25 +2,20 @@
 
 ghost use Rattle.std.specs.Prelude.{◌≡◌, ◌≤◌, ◌<◌, ◌^◌, ◌-◌, ◌↔◌, length, drop, None, IfOk, IsTrue, true, IsNone, MatchOption, Err};
 ghost use Rattle.sql_tree.specs.Spelling.{IsGapless, tokens_of};
-ghost use Rattle.sql_parser.specs.Cursor.{AreSmall};
+ghost use Rattle.sql_reading.specs.Cursor.{AreSmall};
 ghost use Rattle.sql_parser.specs.Judging as judging;
 ghost use Rattle.sql_parser.specs.Judging.{WasRead, TokensGive, is_deep};
-ghost use Rattle.sql_parser.specs.Outcome.{Outcome, IsOutcome, IsTold, Tells, place_after};
-ghost use Rattle.sql_parser.specs.Outside as outside;
-ghost use Rattle.sql_parser.specs.Passes.{numbers};
-ghost use Rattle.sql_parser.specs.declared.refusal.ParseFault.TheVariants as fault;
-ghost use Rattle.sql_parser.specs.declared.refusal.SqlKind.TheVariants as kind;
+ghost use Rattle.sql_outcomes.specs.Outcome.{Outcome, IsOutcome, IsTold, Tells, place_after};
+ghost use Rattle.sql_outcomes.specs.Outside as outside;
+ghost use Rattle.sql_readers.specs.Passes as passes;
+ghost use Rattle.sql_readers.specs.Passes.{numbers};
+ghost use Rattle.sql_outcomes.specs.declared.refusal.ParseFault.TheVariants as fault;
+ghost use Rattle.sql_outcomes.specs.declared.refusal.SqlKind.TheVariants as kind;
 
-use crate::cursor::Cursor;
-use crate::depth::is_too_deep;
-use crate::made::Reading;
 use crate::outside::outside_place;
-use crate::parameters::are_gapless;
-use crate::qualifiers::qualifiers_agree;
-use crate::refusal::{ParseFault, SqlKind, SqlRefusal};
-use crate::statements::read_whole;
-use crate::stop::Stop;
 use acra_base::NoMemory;
+use sql_outcomes::{ParseFault, SqlKind, SqlRefusal};
+use sql_reading::{Cursor, Reading, Stop, are_gapless, is_too_deep, qualifiers_agree, read_whole};
 use sql_tokens::{TokenSlice, lex};
 use sql_tree::Statement;
 use std::alloc::Global;
@@ -53,7 +48,7 @@ fn side_conditions_hold(
     tokens: &TokenSlice<'_>,
     statement: &Statement,
 ) -> Result<bool, NoMemory>
-    ensures { IfOk result (λ holds. IsTrue holds ↔ ((judging.qualifiers_agree statement.now (tokens_of tokens.now) ≡ true) × IsGapless (numbers (tokens_of tokens.now)))) }
+    ensures { IfOk result (λ holds. IsTrue holds ↔ ((passes.qualifiers_agree statement.now (tokens_of tokens.now) ≡ true) × IsGapless (numbers (tokens_of tokens.now)))) }
 {
     if !qualifiers_agree(statement, tokens) {
         return Ok(false);

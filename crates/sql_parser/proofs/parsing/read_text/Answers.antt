@@ -1,4 +1,4 @@
-use Rattle.std.proofs.Common.{sym, ◌∙◌}
+use Rattle.std.proofs.Common.{sym}
 use Rattle.sql_parser.proofs.Judged as facts
 use Rattle.sql_parser.proofs.parsing.read_text.Goals as goal
 

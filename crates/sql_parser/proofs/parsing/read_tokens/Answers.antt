@@ -1,4 +1,3 @@
-use Rattle.std.proofs.Common.{rules}
 use Rattle.sql_parser.proofs.Judged as facts
 use Rattle.sql_parser.proofs.parsing.read_tokens.Goals as goal
 

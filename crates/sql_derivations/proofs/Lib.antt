@@ -1,0 +1,17 @@
+pub mod Exactly
+pub mod Choosing
+pub mod Looked
+pub mod Sequences
+pub mod Led
+pub mod Columns
+pub mod Tests
+pub mod Conds
+pub mod Selects
+pub mod Texts
+pub mod Wholes
+pub mod Outcomes
+pub mod Dots
+pub mod Numbers
+pub mod Parsed
+pub mod Possible
+pub mod Wellformed

@@ -1,6 +1,0 @@
-use Rattle.std.proofs.Common.{◌≡◌}
-use Rattle.sql_parser.specs.Levels.{nots_of}
-use Rattle.sql_parser.proofs.conditions.with_nots.Given as goal
-
-abbrev pub invariant-loop : goal.invariant-loop
-invariant-loop l = l.whole ≡ nots_of l.counter l.fn.part

@@ -1,5 +1,0 @@
-use Rattle.sql_parser.proofs.Wellformed as facts
-use Rattle.sql_parser.proofs.laws.spelled_is_statement.Goals as goal
-
-pub returns : goal.returns
-returns c = facts.spelled_is_statement

@@ -1,0 +1,12 @@
+pub mod Steps
+pub mod Taken
+pub mod Named
+pub mod Machine
+pub mod Stacked
+pub mod Held
+pub mod Shrinking
+pub mod Lists
+pub mod Chosen
+pub mod Gapless
+pub mod Small
+pub mod Deep

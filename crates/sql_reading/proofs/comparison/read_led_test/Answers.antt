@@ -1,0 +1,20 @@
+use Rattle.sql_reading.proofs.Named.{substr_is, column_test_is}
+use Rattle.sql_readers.specs.Productions.{led_test}
+use Rattle.sql_reading.proofs.Steps.{gives_ended, ended, ended_seen, gives_seen, gives_same, gives_call, gives_name, ended_name}
+use Rattle.sql_reading.proofs.comparison.read_led_test.Goals as goal
+
+pub returns-then-eat_call : goal.returns-then-eat_call
+unfolding led_test
+returns-then-eat_call c = gives_seen _ _ _ _ _ _ (gives_call _ _ _ _ _ _ _ _ c.if-eat_call.ensures (gives_same _ _ _ _ _ _ substr_is c.read_substr_test.ensures))
+
+pub returns-in_err-first : goal.returns-in_err-first
+unfolding led_test
+returns-in_err-first c = gives_ended _ _ _ _ _ (ended_seen _ (ended_name _ _ c.if-eat_call.ensures (ended _ _ _ _ _ c.from_residual.ensures.1 c.in_err-first.ensures)))
+
+pub returns : goal.returns
+unfolding led_test
+returns c =
+    let first = c.in_ok-first.ensures in
+    gives_seen _ _ _ _ _ _
+    (gives_name _ _ _ _ _ _ _ _ _ _ c.if-eat_call.ensures first.2
+    (gives_same _ _ _ _ _ _ (column_test_is first.0 c.in_ok-first.first first.1) c.read_column_test.ensures))

@@ -10,12 +10,12 @@ use Rattle.pg_wire.specs.declared.frame.FrameFault.{FrameFault}
 use Rattle.pg_wire.specs.declared.frame.Side.TheVariants as side
 use Rattle.pg_wire.specs.Frames.{HasFault}
 use Rattle.pg_wire.specs.Fronts.{front_kind, front_body}
-use Rattle.table_rows.specs.declared.cell.Cell.{Cell}
-use Rattle.table_rows.specs.Tables.{Table}
-use Rattle.plain_tables.specs.Requests.{Request, Phase, phase_after_all, is_opening, IsSaid, AreSaid, message_of, request_bytes, stream_of, NoRequest, Splits, message_limit}
-use Rattle.plain_tables.specs.BadMessages.{IsBad, IsCut}
-use Rattle.plain_tables.proofs.Requested.{said_frame}
-use Rattle.plain_tables.proofs.Faulty.{bad_stays, bad_says_nothing}
+use Rattle.table_machine.specs.declared.cell.Cell.{Cell}
+use Rattle.table_machine.specs.Tables.{Table}
+use Rattle.session_model.specs.Requests.{Request, Phase, phase_after_all, is_opening, IsSaid, AreSaid, message_of, request_bytes, stream_of, NoRequest, Splits, message_limit}
+use Rattle.session_model.specs.BadMessages.{IsBad, IsCut}
+use Rattle.session_model.proofs.Requested.{said_frame}
+use Rattle.session_model.proofs.Faulty.{bad_stays, bad_says_nothing}
 use Rattle.acra_block.specs.Keys.{Key}
 use Rattle.lab_session.specs.Runs.{started, answers}
 use Rattle.lab_core.specs.Words.{IsSession, number_of}
@@ -24,7 +24,7 @@ use Rattle.lab_session.specs.Session.{Ran, MayBegin, may_begin}
 use Rattle.lab_core.specs.Headline.{WhereTold, replies_to, IsOver, AllAnswered, AnsweredTo, AnsweredCut, AnsweredRead, AnsweredSpent, AnsweredFront, Headline, Due, IsDue, Untouched}
 use Rattle.lab_session.specs.declared.status.Status.{Status}
 use Rattle.lab_session.specs.declared.status.Status.TheVariants as ends
-use Rattle.plain_tables.proofs.OneStream.{one_stream}
+use Rattle.session_model.proofs.OneStream.{one_stream}
 use Rattle.lab_session.proofs.Relayed.{frame_not_empty}
 use Rattle.lab_session.proofs.Steps.{stream_more, length_zero}
 

@@ -5,11 +5,11 @@ use Rattle.std.proofs.lemmas.Fmt.{decimal_digit}
 use Rattle.rand_chacha.specs.ChaCha.{ChaCha}
 use Rattle.pg_wire.specs.declared.back.Field.{Field}
 use Rattle.pg_wire.specs.declared.back.Back.TheVariants as backs
-use Rattle.lab_service.specs.Replies.{startup_messages, ready}
-use Rattle.lab_service.proofs.Texts.{IsText-from_test}
-use Rattle.plain_tables.specs.Requests.{Request, Phase, IsSaid, IsQuery, AreSaid, NoRequest, Splits}
-use Rattle.plain_tables.specs.declared.meaning.Meaning.TheVariants as meaning
-use Rattle.plain_tables.specs.Reply.{reply_bytes}
+use Rattle.machine_replies.specs.Replies.{startup_messages, ready}
+use Rattle.lab_backend.proofs.Texts.{IsText-from_test}
+use Rattle.session_model.specs.Requests.{Request, Phase, IsSaid, IsQuery, AreSaid, NoRequest, Splits}
+use Rattle.session_model.specs.declared.meaning.Meaning.TheVariants as meaning
+use Rattle.session_model.specs.Reply.{reply_bytes}
 use Rattle.lab_core.specs.Headline.{IsOver}
 use Rattle.lab_session.specs.Runs.{started, answers}
 use Rattle.lab_core.proofs.Texts.{insert_means, select_means}

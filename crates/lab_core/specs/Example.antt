@@ -7,7 +7,7 @@ use Rattle.sql_tree.specs.declared.statement.Item.{Item}
 use Rattle.sql_tree.specs.declared.statement.Items.TheVariants as select
 use Rattle.sql_tree.specs.declared.statement.Statement.{Statement}
 use Rattle.sql_tree.specs.declared.statement.Statement.TheVariants as statement
-use Rattle.plain_tables.specs.Requests.{Request, Splits}
+use Rattle.session_model.specs.Requests.{Request, Splits}
 use Rattle.lab_core.specs.Headline.{IsOver, replies_to}
 
 -- ---- what the client asks

@@ -2,8 +2,8 @@
 use Rattle.std.specs.Prelude.{ℕ, ◌≡◌, ◌+◌, ◌^◌, ◌≤◌, ◌⊎◌, Option, Some, List, [], ◌++◌, length}
 use Rattle.std.specs.List.{flat_map}
 use Rattle.pg_wire.specs.declared.frame.MessageFault.{MessageFault}
-use Rattle.plain_tables.specs.Requests.{Request, Phase, phase_after_all, AreSaid, request_bytes, stream_of, Splits}
-use Rattle.plain_tables.specs.BadMessages.{IsBad, IsCut}
+use Rattle.session_model.specs.Requests.{Request, Phase, phase_after_all, AreSaid, request_bytes, stream_of, Splits}
+use Rattle.session_model.specs.BadMessages.{IsBad, IsCut}
 use Rattle.lab_session.specs.Runs.{started, answers}
 use Rattle.lab_session.specs.ClientKey.{client_drawn}
 use Rattle.lab_session.specs.declared.status.Status.{Status}

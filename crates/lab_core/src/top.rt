@@ -5,7 +5,7 @@ ghost use Rattle.lab_core.specs.Headline.{WhereTold, Headline, IsDue, Untouched}
 
 use crate::words::session_words;
 use acra_devices::{Sink, Source};
-use lab_service::LabBackend;
+use lab_backend::LabBackend;
 use lab_session::{Status, client_ring, first_session, notes_tables};
 use std::alloc::Global;
 

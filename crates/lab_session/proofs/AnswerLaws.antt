@@ -22,26 +22,26 @@ use Rattle.sql_tree.specs.Depths.{statement_depth}
 use Rattle.sql_parser.specs.Outcome.{Outcome, IsOutcome}
 use Rattle.sql_parser.proofs.Outcomes.{one_outcome}
 use Rattle.sql_parser.proofs.Parsed.{canonical_text_is_parsed}
-use Rattle.table_rows.specs.declared.cell.Cell.{Cell}
-use Rattle.table_rows.specs.Stored.{stored}
-use Rattle.table_rows.specs.Tables.{Table, answered, executed, told}
-use Rattle.lab_service.specs.Replies.{messages_of, startup_messages, error_of, wrong_count, ready}
-use Rattle.lab_service.specs.Sessions.{text_limit}
-use Rattle.lab_service.specs.Backend.{Lab, Answers, text_messages, text_tables}
-use Rattle.plain_tables.specs.declared.encryption.Encryption.{Encryption}
-use Rattle.plain_tables.specs.declared.refusal.Refusal.{Refusal}
-use Rattle.plain_tables.specs.Served.{is_served, IsServed}
-use Rattle.plain_tables.specs.Refusals.{refusal_code, refusal_text, refusal_message}
-use Rattle.plain_tables.specs.Requests.{Request, message_limit}
-use Rattle.plain_tables.specs.Meanings.{has_short_strings}
-use Rattle.plain_tables.specs.Reply.{reply_bytes}
-use Rattle.plain_tables.specs.Rewritten.{stored_text, written, rewritten, protected_of}
-use Rattle.plain_tables.specs.Standing.{stored_tables, StandFor}
-use Rattle.plain_tables.specs.Shown.{shown_message}
-use Rattle.plain_tables.specs.Laws.{ReadsBack}
-use Rattle.plain_tables.proofs.Parts.{Served, Fits, tree_of, by_parts}
-use Rattle.plain_tables.proofs.Carried.{tables_stand}
-use Rattle.plain_tables.proofs.Shows.{replies_stand}
+use Rattle.table_machine.specs.declared.cell.Cell.{Cell}
+use Rattle.table_machine.specs.Stored.{stored}
+use Rattle.table_machine.specs.Tables.{Table, answered, executed, told}
+use Rattle.machine_replies.specs.Replies.{messages_of, startup_messages, error_of, wrong_count, ready}
+use Rattle.lab_backend.specs.Sessions.{text_limit}
+use Rattle.lab_backend.specs.Backend.{Lab, Answers, text_messages, text_tables}
+use Rattle.session_model.specs.declared.encryption.Encryption.{Encryption}
+use Rattle.session_model.specs.declared.refusal.Refusal.{Refusal}
+use Rattle.session_model.specs.Served.{is_served, IsServed}
+use Rattle.session_model.specs.Refusals.{refusal_code, refusal_text, refusal_message}
+use Rattle.session_model.specs.Requests.{Request, message_limit}
+use Rattle.session_model.specs.Meanings.{has_short_strings}
+use Rattle.session_model.specs.Reply.{reply_bytes}
+use Rattle.session_model.specs.Rewritten.{stored_text, written, rewritten, protected_of}
+use Rattle.session_model.specs.Standing.{stored_tables, StandFor}
+use Rattle.session_model.specs.Shown.{shown_message}
+use Rattle.session_model.specs.Laws.{ReadsBack}
+use Rattle.session_model.proofs.Parts.{Served, Fits, tree_of, by_parts}
+use Rattle.session_model.proofs.Carried.{tables_stand}
+use Rattle.session_model.proofs.Shows.{replies_stand}
 use Rattle.plain_values.specs.Values.{hex_reading}
 use Rattle.acra_block.specs.Keys.{Key}
 use Rattle.acra_block.specs.declared.keys.KeyView.{KeyView}

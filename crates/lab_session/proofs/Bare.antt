@@ -13,13 +13,13 @@ use Rattle.pg_wire.specs.declared.back.Back.TheVariants as backs
 use Rattle.sql_tree.specs.declared.statement.Item.{Item}
 use Rattle.sql_tree.specs.declared.statement.Statement.{Statement}
 use Rattle.sql_tree.specs.Canonical.{canon}
-use Rattle.lab_service.specs.Backend.{Lab}
-use Rattle.plain_tables.specs.Served.{is_served, IsServed}
-use Rattle.plain_tables.specs.Meanings.{has_short_strings}
-use Rattle.plain_tables.specs.Requests.{Request}
-use Rattle.plain_tables.specs.Rewritten.{written, rewritten, is_protected, protected_of}
-use Rattle.plain_tables.proofs.Parts.{Served, Fits, items_of, tree_of, by_parts}
-use Rattle.plain_tables.specs.Shown.{as_text, where_protected, shown_cell, shown_message}
+use Rattle.lab_backend.specs.Backend.{Lab}
+use Rattle.session_model.specs.Served.{is_served, IsServed}
+use Rattle.session_model.specs.Meanings.{has_short_strings}
+use Rattle.session_model.specs.Requests.{Request}
+use Rattle.session_model.specs.Rewritten.{written, rewritten, is_protected, protected_of}
+use Rattle.session_model.proofs.Parts.{Served, Fits, items_of, tree_of, by_parts}
+use Rattle.session_model.specs.Shown.{as_text, where_protected, shown_cell, shown_message}
 use Rattle.lab_session.specs.Cells.{HasKey, opened_by}
 use Rattle.lab_session.specs.Runs.{State, cell_for, drawn_for}
 use Rattle.lab_session.specs.Leases.{needs_lease}

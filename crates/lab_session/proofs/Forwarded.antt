@@ -12,11 +12,11 @@ use Rattle.pg_wire.specs.Fronts.{front_kind, front_body, front_frame}
 use Rattle.pg_wire.specs.Backs.{back_frame}
 use Rattle.pg_wire.proofs.FrameLaws.{one_frame}
 use Rattle.pg_wire.proofs.OneMessage.{one_front}
-use Rattle.table_rows.specs.declared.cell.Cell.{Cell}
-use Rattle.table_rows.specs.Tables.{Table}
-use Rattle.lab_service.specs.Sessions.{Session, IsRequest, Begins, StandsFirst, session_fed, text_limit}
-use Rattle.lab_service.specs.Backend.{Lab, Replies, Executes, Idles, Fails, ExecuteGives}
-use Rattle.plain_tables.specs.Reply.{reply_bytes}
+use Rattle.table_machine.specs.declared.cell.Cell.{Cell}
+use Rattle.table_machine.specs.Tables.{Table}
+use Rattle.lab_backend.specs.Sessions.{Session, IsRequest, Begins, StandsFirst, session_fed, text_limit}
+use Rattle.lab_backend.specs.Backend.{Lab, Replies, Executes, Idles, Fails, ExecuteGives}
+use Rattle.session_model.specs.Reply.{reply_bytes}
 use Rattle.lab_session.specs.Runs.{session_number}
 use Rattle.lab_session.specs.Session.{connection, awaits_startup}
 use Rattle.lab_session.specs.Relaying.{IsReply, Sends, IsIdle, CanSend, Breaks, ForwardGives}

@@ -11,8 +11,8 @@ use Rattle.rand_chacha.specs.ChaCha.{ChaCha}
 use Rattle.acra_block.specs.Keys.{Key, key_of}
 use Rattle.pg_wire.specs.Streams.{Stream}
 use Rattle.pg_wire.specs.Fronts.{front_kind, front_body}
-use Rattle.lab_service.specs.Backend.{Lab}
-use Rattle.plain_tables.specs.Requests.{Request, request_bytes, message_of}
+use Rattle.lab_backend.specs.Backend.{Lab}
+use Rattle.session_model.specs.Requests.{Request, request_bytes, message_of}
 use Rattle.keystore.specs.declared.phase.OldKey.{OldKey}
 use Rattle.keystore.specs.declared.tickets.Ticket.{Ticket}
 use Rattle.keystore.specs.Lists.{first}

@@ -4,10 +4,10 @@ use Rattle.sql_parser.specs.declared.refusal.SqlRefusal.{SqlRefusal}
 use Rattle.sql_parser.specs.declared.refusal.ParseFault.{ParseFault}
 use Rattle.sql_parser.specs.declared.refusal.ParseFault.TheVariants as fault
 use Rattle.sql_parser.specs.Outcome.{Outcome, IsOutcome, IsTold}
-use Rattle.plain_tables.specs.declared.meaning.Meaning.{Meaning}
-use Rattle.plain_tables.specs.declared.meaning.Meaning.TheVariants as meaning
-use Rattle.plain_tables.specs.declared.refusal.Refusal.{Refusal}
-use Rattle.plain_tables.specs.Meanings.{text_limit, refusal_of, meaning_of, Means}
+use Rattle.session_model.specs.declared.meaning.Meaning.{Meaning}
+use Rattle.session_model.specs.declared.meaning.Meaning.TheVariants as meaning
+use Rattle.session_model.specs.declared.refusal.Refusal.{Refusal}
+use Rattle.session_model.specs.Meanings.{text_limit, refusal_of, meaning_of, Means}
 
 pub meant : (text : List ℕ) (outcome : Outcome) (what : Meaning) → IsOutcome text text_limit outcome → what ≡ meaning_of outcome → Means text what
 meant text outcome what is e = record { outcome = outcome; is = is; means = sym e }

@@ -10,18 +10,18 @@ use Rattle.sql_tree.specs.declared.condition.Operand.{Operand}
 use Rattle.sql_tree.specs.declared.condition.Operand.TheVariants as operand
 use Rattle.sql_tree.specs.declared.statement.Statement.{Statement}
 use Rattle.sql_tree.specs.declared.statement.Statement.TheVariants as statement
-use Rattle.table_rows.specs.declared.cell.Cell.TheVariants as cell
-use Rattle.table_rows.specs.Tables.{Table}
-use Rattle.plain_tables.specs.Notes.{notes_with}
-use Rattle.plain_tables.specs.Served.{is_served}
-use Rattle.plain_tables.specs.Meanings.{string_limit, is_short_value, has_short_strings}
-use Rattle.plain_tables.specs.Plain.{PlainCell, plain}
-use Rattle.plain_tables.specs.Reply.{plain_executed}
-use Rattle.plain_tables.specs.Rewritten.{written_values, written}
-use Rattle.plain_tables.specs.Standing.{IsMeant, AreMeant}
-use Rattle.plain_tables.proofs.Parts.{Served, Fits, tree_of, by_parts}
-use Rattle.plain_tables.proofs.Executed.{select_executed, insert_executed}
-use Rattle.plain_tables.proofs.Carried.{number_plain}
+use Rattle.table_machine.specs.declared.cell.Cell.TheVariants as cell
+use Rattle.table_machine.specs.Tables.{Table}
+use Rattle.session_model.specs.Notes.{notes_with}
+use Rattle.session_model.specs.Served.{is_served}
+use Rattle.session_model.specs.Meanings.{string_limit, is_short_value, has_short_strings}
+use Rattle.session_model.specs.Plain.{PlainCell, plain}
+use Rattle.session_model.specs.Reply.{plain_executed}
+use Rattle.session_model.specs.Rewritten.{written_values, written}
+use Rattle.session_model.specs.Standing.{IsMeant, AreMeant}
+use Rattle.session_model.proofs.Parts.{Served, Fits, tree_of, by_parts}
+use Rattle.session_model.proofs.Executed.{select_executed, insert_executed}
+use Rattle.session_model.proofs.Carried.{number_plain}
 use Rattle.acra_block.specs.Keys.{Key}
 use Rattle.lab_session.specs.Cells.{sealed_cell, IsStored}
 use Rattle.lab_session.specs.Runs.{cell_for}

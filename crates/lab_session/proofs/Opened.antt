@@ -12,12 +12,12 @@ use Rattle.acra_block.specs.declared.keys.KeyView.{KeyView}
 use Rattle.acra_block.specs.Keys.{Key}
 use Rattle.acra_block.proofs.Sealed.{cell_opens}
 use Rattle.acra_block.proofs.Spelled.{sealed_parts}
-use Rattle.plain_tables.specs.Meanings.{string_limit}
-use Rattle.plain_tables.specs.Rewritten.{stored_text}
-use Rattle.table_rows.specs.Tables.{Table}
-use Rattle.plain_tables.specs.Plain.{PlainCell}
-use Rattle.plain_tables.specs.Standing.{IsMeant, AreMeant}
-use Rattle.plain_tables.specs.Shown.{Opens}
+use Rattle.session_model.specs.Meanings.{string_limit}
+use Rattle.session_model.specs.Rewritten.{stored_text}
+use Rattle.table_machine.specs.Tables.{Table}
+use Rattle.session_model.specs.Plain.{PlainCell}
+use Rattle.session_model.specs.Standing.{IsMeant, AreMeant}
+use Rattle.session_model.specs.Shown.{Opens}
 use Rattle.lab_session.specs.Cells.{sealing, opening, sealed_cell, IsStored, HasKey, text_bytes, value_of, value_in, opened_by}
 
 -- a sealed cell has 112 bytes more than its value

@@ -1,7 +1,7 @@
 -- The items at protected places, at the end of a list.
 use Rattle.std.proofs.Common.{◌≡◌, ◌≤◌, ℕ, Bool, List, [], ◌∷◌, ◌++◌, length, drop, refl, sym, ap, ◌∙◌}
 use Rattle.std.proofs.lemmas.List.{drop_all, append-nil}
-use Rattle.plain_tables.specs.Shown.{where_protected}
+use Rattle.session_model.specs.Shown.{where_protected}
 
 none_left : {A : Type 0} (change : A → A) (ps : List Bool) → where_protected change ps [] ≡ []
 none_left change [] = refl

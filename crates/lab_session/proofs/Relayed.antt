@@ -21,8 +21,8 @@ use Rattle.pg_wire.specs.Frames.{counted, frame_bytes, IsFrame, is_type, asks_en
 use Rattle.pg_wire.specs.Streams.{Stream, GivesFrame, Gives, new_stream, fed}
 use Rattle.pg_wire.specs.Backs.{back_kind, back_body, back_frame}
 use Rattle.pg_wire.specs.Reading.{SpellsBack, ReadsAs}
-use Rattle.lab_service.specs.Replies.{IsWritable}
-use Rattle.plain_tables.specs.Reply.{reply_bytes}
+use Rattle.machine_replies.specs.Replies.{IsWritable}
+use Rattle.session_model.specs.Reply.{reply_bytes}
 use Rattle.lab_session.specs.Session.{SentFront}
 use Rattle.lab_session.specs.Relaying.{IsReply, Holds, NextIs, Sends}
 

@@ -15,15 +15,15 @@ use Rattle.pg_wire.specs.Frames.{frame_bytes, IsFrame, HasFault, IsUnfinished}
 use Rattle.pg_wire.specs.Streams.{Stream, behind, GivesFrame, Gives}
 use Rattle.pg_wire.specs.Fronts.{IsFront, str, front_kind, front_body}
 use Rattle.pg_wire.specs.Reading.{SpellsFront}
-use Rattle.plain_tables.specs.declared.encryption.Encryption.{Encryption}
-use Rattle.plain_tables.specs.declared.encryption.Encryption.TheVariants as encryption
-use Rattle.plain_tables.specs.declared.meaning.Meaning.{Meaning}
-use Rattle.plain_tables.specs.declared.meaning.Meaning.TheVariants as meaning
-use Rattle.plain_tables.specs.Meanings.{Means}
-use Rattle.plain_tables.specs.Requests.{Request, Phase, is_opening, IsQuery, IsSaid, asking, message_of, message_limit}
-use Rattle.plain_tables.specs.BadMessages.{StandsFirst, is_placed, IsBad}
+use Rattle.session_model.specs.declared.encryption.Encryption.{Encryption}
+use Rattle.session_model.specs.declared.encryption.Encryption.TheVariants as encryption
+use Rattle.session_model.specs.declared.meaning.Meaning.{Meaning}
+use Rattle.session_model.specs.declared.meaning.Meaning.TheVariants as meaning
+use Rattle.session_model.specs.Meanings.{Means}
+use Rattle.session_model.specs.Requests.{Request, Phase, is_opening, IsQuery, IsSaid, asking, message_of, message_limit}
+use Rattle.session_model.specs.BadMessages.{StandsFirst, is_placed, IsBad}
 use Rattle.lab_session.specs.Understood.{IsUnderstood}
-use Rattle.plain_tables.proofs.Meant.{served_is}
+use Rattle.session_model.proofs.Meant.{served_is}
 use Rattle.lab_session.specs.Answering.{phase_of, request_of, Takes, NextGives, CanAnswer}
 use Rattle.lab_session.specs.declared.said.Said.{Said}
 use Rattle.lab_session.specs.declared.said.Said.TheVariants as said

@@ -19,10 +19,10 @@ use Rattle.sql_tree.specs.declared.statement.Statement.{Statement}
 use Rattle.sql_tree.specs.Canonical.{canon, quotes}
 use Rattle.sql_tree.specs.Shapes.{printed}
 use Rattle.sql_tree.specs.Laws.{IsPossible, IsStatement}
-use Rattle.lab_service.proofs.Texts.{ArePositive, IsText-from_positive, IsText-from_test, ArePositive-from_test, ArePositive-decimal}
-use Rattle.plain_tables.specs.Served.{is_served, IsServed}
-use Rattle.plain_tables.specs.Rewritten.{stored_text, rewritten}
-use Rattle.plain_tables.proofs.Parts.{Column, Chosen, Served, Fits, inserting, tree_of, by_parts}
+use Rattle.lab_backend.proofs.Texts.{ArePositive, IsText-from_positive, IsText-from_test, ArePositive-from_test, ArePositive-decimal}
+use Rattle.session_model.specs.Served.{is_served, IsServed}
+use Rattle.session_model.specs.Rewritten.{stored_text, rewritten}
+use Rattle.session_model.proofs.Parts.{Column, Chosen, Served, Fits, inserting, tree_of, by_parts}
 
 -- ---- stored bytes in text form
 

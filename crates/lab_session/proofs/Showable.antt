@@ -21,9 +21,9 @@ use Rattle.pg_wire.specs.declared.back.Field.{Field}
 use Rattle.pg_wire.specs.declared.back.Back.{Back}
 use Rattle.pg_wire.specs.declared.back.Back.TheVariants as backs
 use Rattle.pg_wire.specs.Backs.{IsField, field_bytes, IsCell, cell_bytes}
-use Rattle.lab_service.specs.Replies.{IsWritable}
-use Rattle.lab_service.proofs.Lengths.{length-field_bytes}
-use Rattle.plain_tables.specs.Shown.{as_text, where_protected, opened_or, shown_cell, shown_message}
+use Rattle.machine_replies.specs.Replies.{IsWritable}
+use Rattle.lab_backend.proofs.Lengths.{length-field_bytes}
+use Rattle.session_model.specs.Shown.{as_text, where_protected, opened_or, shown_cell, shown_message}
 use Rattle.lab_session.specs.Cells.{opening, text_bytes, value_of, value_in, opened_by}
 
 -- ---- what opens is shorter than its text

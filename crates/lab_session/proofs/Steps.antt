@@ -14,16 +14,16 @@ use Rattle.pg_wire.specs.declared.front.Front.TheVariants as fronts
 use Rattle.pg_wire.specs.Streams.{Stream, fed, new_stream}
 use Rattle.pg_wire.specs.Frames.{asks_encryption, IsUnfinished}
 use Rattle.pg_wire.specs.Fronts.{front_body}
-use Rattle.table_rows.specs.Tables.{Table}
-use Rattle.table_rows.specs.declared.cell.Cell.{Cell}
-use Rattle.lab_service.specs.Sessions.{Session, new_session}
-use Rattle.lab_service.specs.Backend.{Lab}
-use Rattle.plain_tables.specs.Notes.{notes_with}
-use Rattle.plain_tables.specs.declared.encryption.Encryption.{Encryption}
-use Rattle.plain_tables.specs.declared.encryption.Encryption.TheVariants as encryption
-use Rattle.plain_tables.specs.Requests.{Request, Phase, phase_after, phase_after_all, is_opening, IsSaid, AreSaid, asking, message_of, request_bytes, stream_of, message_limit}
-use Rattle.plain_tables.specs.BadMessages.{IsBad}
-use Rattle.plain_tables.specs.Standing.{StandFor}
+use Rattle.table_machine.specs.Tables.{Table}
+use Rattle.table_machine.specs.declared.cell.Cell.{Cell}
+use Rattle.lab_backend.specs.Sessions.{Session, new_session}
+use Rattle.lab_backend.specs.Backend.{Lab}
+use Rattle.session_model.specs.Notes.{notes_with}
+use Rattle.session_model.specs.declared.encryption.Encryption.{Encryption}
+use Rattle.session_model.specs.declared.encryption.Encryption.TheVariants as encryption
+use Rattle.session_model.specs.Requests.{Request, Phase, phase_after, phase_after_all, is_opening, IsSaid, AreSaid, asking, message_of, request_bytes, stream_of, message_limit}
+use Rattle.session_model.specs.BadMessages.{IsBad}
+use Rattle.session_model.specs.Standing.{StandFor}
 use Rattle.acra_block.specs.Keys.{Key}
 use Rattle.lab_session.specs.Cells.{IsStored}
 use Rattle.lab_session.specs.Runs.{State, started, state_after, state_after_all, answer, answers}

@@ -7,11 +7,11 @@ use Rattle.pg_wire.specs.Streams.{Stream, behind}
 use Rattle.pg_wire.specs.Frames.{IsFrame, IsUnfinished}
 use Rattle.pg_wire.specs.declared.frame.Side.TheVariants as side
 use Rattle.pg_wire.specs.Fronts.{IsFront, front_kind, front_body}
-use Rattle.lab_service.specs.Backend.{Lab}
-use Rattle.plain_tables.specs.Requests.{Request, Phase, phase_after, is_opening, IsSaid, message_of, request_bytes, message_limit}
-use Rattle.plain_tables.specs.Meanings.{has_short_strings}
-use Rattle.plain_tables.specs.BadMessages.{IsBad}
-use Rattle.plain_tables.specs.Standing.{StandFor}
+use Rattle.lab_backend.specs.Backend.{Lab}
+use Rattle.session_model.specs.Requests.{Request, Phase, phase_after, is_opening, IsSaid, message_of, request_bytes, message_limit}
+use Rattle.session_model.specs.Meanings.{has_short_strings}
+use Rattle.session_model.specs.BadMessages.{IsBad}
+use Rattle.session_model.specs.Standing.{StandFor}
 use Rattle.acra_block.specs.Keys.{Key}
 use Rattle.keystore.specs.Rings.{RingState}
 use Rattle.lab_session.specs.Cells.{IsStored}
@@ -19,8 +19,8 @@ use Rattle.lab_session.specs.Runs.{State, cell_for, drawn_for, state_after, answ
 use Rattle.hex.specs.Hex.{IsBytes}
 use Rattle.sql_tree.specs.declared.statement.Statement.{Statement}
 use Rattle.sql_tree.specs.Canonical.{canon}
-use Rattle.plain_tables.specs.Served.{IsServed}
-use Rattle.plain_tables.specs.Rewritten.{written, rewritten, protected_of}
+use Rattle.session_model.specs.Served.{IsServed}
+use Rattle.session_model.specs.Rewritten.{written, rewritten, protected_of}
 use Rattle.lab_session.specs.declared.plan.Plan.{Plan}
 use Rattle.lab_session.specs.Session.{Rests, SentFront}
 use Rattle.lab_session.specs.Leases.{after_leases}

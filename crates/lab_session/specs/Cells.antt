@@ -12,7 +12,7 @@ use Rattle.acra_block.specs.declared.kind.CellKind.TheVariants as kinds
 use Rattle.acra_block.specs.declared.keys.KeyView.{KeyView}
 use Rattle.acra_block.specs.declared.opening.Opened.{Opened}
 use Rattle.acra_block.specs.declared.opening.Opened.TheVariants as answers
-use Rattle.plain_tables.specs.Meanings.{string_limit}
+use Rattle.session_model.specs.Meanings.{string_limit}
 
 -- the cipher, AES-256-GCM
 abbrev pub sealing : Sealing

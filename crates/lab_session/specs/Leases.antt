@@ -4,8 +4,8 @@ use Rattle.std.specs.List.{list_any, AllByRecursion}
 use Rattle.sql_tree.specs.declared.statement.Items.TheVariants as select
 use Rattle.sql_tree.specs.declared.statement.Statement.{Statement}
 use Rattle.sql_tree.specs.declared.statement.Statement.TheVariants as statement
-use Rattle.plain_tables.specs.Requests.{Request}
-use Rattle.plain_tables.specs.Rewritten.{written, is_protected}
+use Rattle.session_model.specs.Requests.{Request}
+use Rattle.session_model.specs.Rewritten.{written, is_protected}
 use Rattle.acra_block.specs.Keys.{Key}
 use Rattle.keystore.specs.declared.tickets.Ticket.{Ticket}
 use Rattle.keystore.specs.Rings.{RingState, current_of, view_of}

@@ -9,10 +9,10 @@ use Rattle.pg_wire.specs.Streams.{Stream}
 use Rattle.pg_wire.specs.Fronts.{IsFront, front_kind, front_body}
 use Rattle.pg_wire.specs.Backs.{back_frame}
 use Rattle.pg_wire.specs.Frames.{IsFrame, asks_encryption}
-use Rattle.lab_service.specs.Replies.{IsWritable}
-use Rattle.lab_service.specs.Sessions.{IsRequest, text_limit}
-use Rattle.lab_service.specs.Backend.{Lab, Replies}
-use Rattle.plain_tables.specs.Reply.{reply_bytes}
+use Rattle.machine_replies.specs.Replies.{IsWritable}
+use Rattle.lab_backend.specs.Sessions.{IsRequest, text_limit}
+use Rattle.lab_backend.specs.Backend.{Lab, Replies}
+use Rattle.session_model.specs.Reply.{reply_bytes}
 use Rattle.lab_session.specs.Runs.{session_number}
 use Rattle.lab_session.specs.Session.{SentFront, connection, awaits_startup}
 

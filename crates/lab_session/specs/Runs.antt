@@ -2,12 +2,12 @@
 use Rattle.std.specs.Prelude.{ℕ, List, [], ◌∷◌, ◌++◌, Option, Some, None}
 use Rattle.rand_chacha.specs.ChaCha.{ChaCha}
 use Rattle.acra_devices.specs.Draws.{drawn}
-use Rattle.table_rows.specs.Tables.{Table}
-use Rattle.plain_tables.specs.Notes.{notes_with}
-use Rattle.plain_tables.specs.Requests.{Request}
-use Rattle.plain_tables.specs.Plain.{PlainCell}
-use Rattle.plain_tables.specs.Reply.{reply, tables_then}
-use Rattle.plain_tables.specs.Rewritten.{written}
+use Rattle.table_machine.specs.Tables.{Table}
+use Rattle.session_model.specs.Notes.{notes_with}
+use Rattle.session_model.specs.Requests.{Request}
+use Rattle.session_model.specs.Plain.{PlainCell}
+use Rattle.session_model.specs.Reply.{reply, tables_then}
+use Rattle.session_model.specs.Rewritten.{written}
 use Rattle.acra_block.specs.Keys.{Key}
 use Rattle.lab_session.specs.Cells.{sealed_cell}
 

@@ -5,13 +5,13 @@ use Rattle.rand_chacha.specs.ChaCha.{ChaCha}
 use Rattle.acra_devices.specs.Known.{Grew, Shrank, IsAtEnd}
 use Rattle.pg_wire.specs.declared.frame.Side.TheVariants as side
 use Rattle.pg_wire.specs.Streams.{Stream, fed}
-use Rattle.table_rows.specs.declared.cell.Cell.{Cell}
-use Rattle.table_rows.specs.Tables.{Table}
-use Rattle.lab_service.specs.Backend.{Lab, session_of}
-use Rattle.lab_service.specs.Sessions.{Session, text_limit}
-use Rattle.plain_tables.specs.Requests.{Request, Phase, phase_after_all, is_opening, AreSaid, request_bytes, stream_of, message_limit}
-use Rattle.plain_tables.specs.BadMessages.{IsBad, IsCut}
-use Rattle.plain_tables.specs.Standing.{StandFor}
+use Rattle.table_machine.specs.declared.cell.Cell.{Cell}
+use Rattle.table_machine.specs.Tables.{Table}
+use Rattle.lab_backend.specs.Backend.{Lab, session_of}
+use Rattle.lab_backend.specs.Sessions.{Session, text_limit}
+use Rattle.session_model.specs.Requests.{Request, Phase, phase_after_all, is_opening, AreSaid, request_bytes, stream_of, message_limit}
+use Rattle.session_model.specs.BadMessages.{IsBad, IsCut}
+use Rattle.session_model.specs.Standing.{StandFor}
 use Rattle.acra_block.specs.Keys.{Key}
 use Rattle.lab_session.specs.Cells.{IsStored}
 use Rattle.lab_session.specs.Runs.{State, session_number, started, state_after_all, answers}

@@ -4,10 +4,10 @@ use Rattle.pg_wire.specs.declared.front.Front.{Front}
 use Rattle.pg_wire.specs.declared.front.Front.TheVariants as fronts
 use Rattle.pg_wire.specs.declared.frame.MessageFault.TheVariants as message
 use Rattle.pg_wire.specs.Reading.{SpellsFront}
-use Rattle.plain_tables.specs.declared.meaning.Meaning.TheVariants as meaning
-use Rattle.plain_tables.specs.Meanings.{Means}
-use Rattle.plain_tables.specs.Requests.{Phase, asking}
-use Rattle.plain_tables.specs.BadMessages.{is_placed}
+use Rattle.session_model.specs.declared.meaning.Meaning.TheVariants as meaning
+use Rattle.session_model.specs.Meanings.{Means}
+use Rattle.session_model.specs.Requests.{Phase, asking}
+use Rattle.session_model.specs.BadMessages.{is_placed}
 use Rattle.lab_session.specs.declared.said.Said.TheVariants as said
 use Rattle.lab_session.specs.declared.said.Next.{Next}
 use Rattle.lab_session.specs.declared.said.Next.TheVariants as next

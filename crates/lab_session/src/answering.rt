@@ -1,7 +1,7 @@
 ghost use Rattle.std.specs.Prelude.{◌≡◌, ◌≤◌, ℕ, List, [], ◌∷◌, false, IsErrOf};
 ghost use Rattle.acra_devices.specs.Causes.{Rose};
-ghost use Rattle.lab_service.specs.Replies.{ready};
-ghost use Rattle.plain_tables.specs.Reply.{reply_bytes};
+ghost use Rattle.machine_replies.specs.Replies.{ready};
+ghost use Rattle.session_model.specs.Reply.{reply_bytes};
 ghost use Rattle.pg_wire.specs.declared.back.Back.TheVariants.{EmptyQuery};
 ghost use Rattle.acra_block.specs.Keys.{Key};
 ghost use Rattle.acra_block.specs.declared.keys.KeyView.{KeyView as View};
@@ -24,7 +24,7 @@ use acra_base::ClientId;
 use acra_devices::{Sink, SureRandom};
 use acra_block::{KeyView, OwnerKey};
 use keystore::Ring;
-use lab_service::{LabBackend, write_ready};
+use lab_backend::{LabBackend, write_ready};
 use pg_wire::{Back, Front, write_back};
 use sql_tree::Statement;
 use std::alloc::Global;

@@ -1,7 +1,7 @@
 ghost use Rattle.std.specs.Prelude.{◌≡◌, ◌≤◌, ◌+◌, ◌<◌, ◌^◌, length, IsErrOf};
 ghost use Rattle.acra_devices.specs.Causes.{Rose};
 ghost use Rattle.pg_wire.specs.Fronts.{IsFront, front_body};
-ghost use Rattle.plain_tables.specs.Shown.{shown_message};
+ghost use Rattle.session_model.specs.Shown.{shown_message};
 ghost use Rattle.lab_session.specs.Cells.{opened_by};
 ghost use Rattle.lab_session.specs.Session.{awaits_startup};
 ghost use Rattle.lab_session.specs.Relaying.{IsIdle, ForwardGives, CanSend};
@@ -10,7 +10,7 @@ use crate::relay::relay;
 use crate::stop::Stop;
 use acra_devices::Sink;
 use acra_block::KeyView;
-use lab_service::LabBackend;
+use lab_backend::LabBackend;
 use pg_wire::{Front, write_front};
 use std::alloc::Global;
 

@@ -1,7 +1,7 @@
 ghost use Rattle.std.specs.Prelude.{◌≡◌, ◌∷◌, [], ℕ, IfOk, IfErr, if◌then◌else◌, is_ok};
 ghost use Rattle.std.specs.List.{list_any};
 ghost use Rattle.acra_block.specs.Keys.{Key};
-ghost use Rattle.plain_tables.specs.Rewritten.{is_protected};
+ghost use Rattle.session_model.specs.Rewritten.{is_protected};
 ghost use Rattle.keystore.specs.Answers.{lease_of, with_lease};
 ghost use Rattle.lab_session.specs.Leases.{shows_protected, needs_lease, Lends};
 

@@ -1,10 +1,10 @@
 ghost use Rattle.std.specs.Prelude.{◌≡◌, IfOk, Ok};
 ghost use Rattle.std.specs.List.{list_all};
-ghost use Rattle.plain_tables.specs.Meanings.{Means, has_short_strings, is_nothing, is_short_value, meaning_of, meaning_served, refusal_of};
+ghost use Rattle.session_model.specs.Meanings.{Means, has_short_strings, is_nothing, is_short_value, meaning_of, meaning_served, refusal_of};
 
 use crate::served::is_served;
 use acra_base::{NoMemory, Sequence};
-use plain_tables::{Meaning, Refusal};
+use session_model::{Meaning, Refusal};
 use sql_parser::{ParseFault, SqlKind, SqlRefusal, parse};
 use sql_tree::{Operand, Statement};
 use std::alloc::Global;

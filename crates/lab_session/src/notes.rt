@@ -1,11 +1,11 @@
 ghost use Rattle.std.specs.Prelude.{◌≡◌, [], true, IfOk};
 ghost use Rattle.acra_base.specs.Names.{is_name};
-ghost use Rattle.plain_tables.specs.Notes.{notes_with};
+ghost use Rattle.session_model.specs.Notes.{notes_with};
 
 use acra_base::{Bytes, Name, NoMemory, Sequence, ValueKind};
-use lab_tables::Tables;
+use table_store::Tables;
 use std::alloc::Global;
-use table_rows::{ColumnDef, TableDef};
+use table_machine::{ColumnDef, TableDef};
 
 fn named(alloc: Global, name: &[u8]) -> Result<Name, NoMemory>
     requires { is_name name.now ≡ true }

@@ -1,8 +1,8 @@
 ghost use Rattle.std.specs.Prelude.{◌≡◌, true, IfOk, OnOk};
 ghost use Rattle.hex.specs.Hex.{IsBytes};
 ghost use Rattle.sql_tree.specs.Canonical.{canon};
-ghost use Rattle.plain_tables.specs.Rewritten.{written, rewritten};
-ghost use Rattle.plain_tables.specs.Meanings.{has_short_strings};
+ghost use Rattle.session_model.specs.Rewritten.{written, rewritten};
+ghost use Rattle.session_model.specs.Meanings.{has_short_strings};
 ghost use Rattle.lab_session.specs.Runs.{cell_for, drawn_for};
 ghost use Rattle.lab_session.specs.Answering.{IsPlan, sent_text};
 

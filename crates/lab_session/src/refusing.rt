@@ -1,17 +1,17 @@
 ghost use Rattle.std.specs.Prelude.{◌≡◌, ◌≤◌, ◌∷◌, [], IfOk, IsErrOf};
 ghost use Rattle.acra_devices.specs.Causes.{Rose};
-ghost use Rattle.lab_service.specs.Replies.{ready};
-ghost use Rattle.plain_tables.specs.Reply.{reply_bytes};
-ghost use Rattle.plain_tables.specs.Refusals.{refusal_code, refusal_text, refusal_message};
-ghost use Rattle.plain_tables.specs.declared.refusal.Refusal.TheVariants as causes;
+ghost use Rattle.machine_replies.specs.Replies.{ready};
+ghost use Rattle.session_model.specs.Reply.{reply_bytes};
+ghost use Rattle.session_model.specs.Refusals.{refusal_code, refusal_text, refusal_message};
+ghost use Rattle.session_model.specs.declared.refusal.Refusal.TheVariants as causes;
 ghost use Rattle.lab_session.specs.Relaying.{Sends};
 
 use crate::send::send;
 use crate::stop::Stop;
 use acra_base::{Bytes, NoMemory};
 use acra_devices::Sink;
-use lab_service::{write_error, write_ready};
-use plain_tables::Refusal;
+use lab_backend::{write_error, write_ready};
+use session_model::Refusal;
 use std::alloc::Global;
 
 // The SQLSTATE code: program_limit_exceeded, feature_not_supported or syntax_error.

@@ -2,9 +2,9 @@ ghost use Rattle.std.specs.Prelude.{◌≡◌, ◌≤◌, List, ℕ, map, IfOk, 
 ghost use Rattle.acra_devices.specs.Causes.{Rose};
 ghost use Rattle.pg_wire.specs.declared.back.Back.{Back as Message};
 ghost use Rattle.pg_wire.specs.Backs.{back_frame};
-ghost use Rattle.lab_service.specs.Replies.{IsWritable};
-ghost use Rattle.plain_tables.specs.Reply.{reply_bytes};
-ghost use Rattle.plain_tables.specs.Shown.{shown_message};
+ghost use Rattle.machine_replies.specs.Replies.{IsWritable};
+ghost use Rattle.session_model.specs.Reply.{reply_bytes};
+ghost use Rattle.session_model.specs.Shown.{shown_message};
 ghost use Rattle.lab_session.specs.Cells.{opened_by};
 ghost use Rattle.lab_session.specs.Relaying.{IsReply, Holds, NextIs, Sends};
 

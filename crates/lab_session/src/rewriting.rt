@@ -1,7 +1,7 @@
 ghost use Rattle.std.specs.Prelude.{◌≡◌, map, IfOk, OnOk, option_map, true};
-ghost use Rattle.plain_tables.specs.Rewritten.{stored_text, rewritten_value, rewritten, is_protected, protected_items, protected_of, written, written_rows, written_values};
+ghost use Rattle.session_model.specs.Rewritten.{stored_text, rewritten_value, rewritten, is_protected, protected_items, protected_of, written, written_rows, written_values};
 ghost use Rattle.sql_tree.specs.declared.statement.Statement.TheVariants as statement;
-ghost use Rattle.plain_tables.specs.Meanings.{has_short_strings};
+ghost use Rattle.session_model.specs.Meanings.{has_short_strings};
 ghost use Rattle.lab_session.specs.Runs.{cell_for, drawn_for};
 
 use acra_base::{Bytes, Name, NoMemory, Sequence};

@@ -1,13 +1,13 @@
 ghost use Rattle.std.specs.Prelude.{◌≡◌, IfOk};
 ghost use Rattle.pg_wire.specs.declared.frame.Side.TheVariants as side;
-ghost use Rattle.plain_tables.specs.Requests.{message_limit};
+ghost use Rattle.session_model.specs.Requests.{message_limit};
 ghost use Rattle.lab_session.specs.Understood.{IsUnderstood};
 ghost use Rattle.lab_session.specs.Answering.{NextGives};
 
 use crate::meanings::text_meaning;
 use acra_base::{NoMemory, Sequence};
 use pg_wire::{Frame, Framer, Front, MessageFault, NextFault, Pair, ReadBody, read_front};
-use plain_tables::{Encryption, Meaning, Refusal};
+use session_model::{Encryption, Meaning, Refusal};
 use sql_tree::Statement;
 use std::alloc::Global;
 

@@ -1,5 +1,5 @@
 ghost use Rattle.std.specs.Prelude.{◌≡◌};
-ghost use Rattle.plain_tables.specs.Served.{is_notes, is_column, is_item, are_columns_of, are_items, is_bare, are_columns, is_number, is_row, are_rows, is_served};
+ghost use Rattle.session_model.specs.Served.{is_notes, is_column, is_item, are_columns_of, are_items, is_bare, are_columns, is_number, is_row, are_rows, is_served};
 
 use acra_base::{Name, Sequence};
 use sql_tree::{Cond, Item, Items, Operand, OrderKey, Statement};

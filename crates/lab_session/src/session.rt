@@ -1,8 +1,8 @@
 ghost use Rattle.std.specs.Prelude.{◌≡◌, ◌≤◌, ◌<◌, ◌+◌, ◌^◌, ℕ, List, [], ◌++◌, Some, IsSome, IfOk, OnErr, IsErrOf};
 ghost use Rattle.acra_devices.specs.Causes.{Rose};
-ghost use Rattle.plain_tables.specs.Requests.{Request};
-ghost use Rattle.lab_service.specs.Sessions.{new_session};
-ghost use Rattle.plain_tables.specs.Notes.{notes_with};
+ghost use Rattle.session_model.specs.Requests.{Request};
+ghost use Rattle.lab_backend.specs.Sessions.{new_session};
+ghost use Rattle.session_model.specs.Notes.{notes_with};
 ghost use Rattle.acra_block.specs.Keys.{Key};
 ghost use Rattle.keystore.specs.Rings.{current_of};
 ghost use Rattle.keystore.specs.Kept.{IsKept};
@@ -16,7 +16,7 @@ use crate::stop::Stop;
 use acra_base::ClientId;
 use acra_devices::{Sink, Source, SureRandom};
 use keystore::Ring;
-use lab_service::LabBackend;
+use lab_backend::LabBackend;
 use pg_wire::{Framer, Side};
 use std::alloc::Global;
 

@@ -1,5 +1,5 @@
 ghost use Rattle.std.specs.Prelude.{◌≡◌, IfOk, false, slice_index_or, Some, if◌then◌else◌};
-ghost use Rattle.plain_tables.specs.Shown.{as_text, described, shown_cell, shown_cells, shown_message};
+ghost use Rattle.session_model.specs.Shown.{as_text, described, shown_cell, shown_cells, shown_message};
 ghost use Rattle.lab_session.specs.Cells.{opened_by};
 
 use crate::opening::open_text;

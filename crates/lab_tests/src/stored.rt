@@ -1,12 +1,12 @@
 ghost use Rattle.std.specs.Prelude.{◌≡◌, []};
-ghost use Rattle.lab_service.specs.Sessions.{new_session};
-ghost use Rattle.plain_tables.specs.Notes.{notes_with};
+ghost use Rattle.lab_backend.specs.Sessions.{new_session};
+ghost use Rattle.session_model.specs.Notes.{notes_with};
 ghost use Rattle.lab_session.specs.Session.{connection};
 
 use crate::testing::STARTUP;
 use acra_base::ClientId;
 use acra_devices::SureLink;
-use lab_service::LabBackend;
+use lab_backend::LabBackend;
 use lab_session::{Status, client_ring, first_session, notes_tables};
 use std::alloc::Global;
 use std::test::Fail;

@@ -1,11 +1,11 @@
 -- What a bound condition is, by its parts.
 use Rattle.std.proofs.Common.{◌≡◌, Bool, List, map, ap, ◌∙◌, sym, Option}
-use Rattle.table_rows.specs.declared.cell.Cell.{Cell}
+use Rattle.table_machine.specs.declared.cell.Cell.{Cell}
 use Rattle.table_rows.specs.declared.filter.Filter.{Filter}
 use Rattle.table_rows.specs.declared.filter.Filter.TheVariants as f
 use Rattle.table_rows.specs.declared.filter.Filter.TheOpen.{Filter-F}
 use Rattle.table_rows.specs.declared.filter.Filter.TheFolds.{fold-roll-Filter}
-use Rattle.table_rows.specs.Logic.{all_of, any_of}
+use Rattle.table_machine.specs.Logic.{all_of, any_of}
 use Rattle.table_rows.specs.Filters.{truth, truth_step}
 
 module _ (row : List Cell) where

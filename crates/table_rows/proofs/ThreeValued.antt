@@ -1,7 +1,7 @@
 -- Three-valued logic over a list, one more at its end.
 use Rattle.std.proofs.Common.{◌≡◌, ℕ, ◌+◌, ◌<◌, Bool, true, false, List, [], ◌∷◌, ◌++◌, length, take, get_or, refl, ap, ◌∙◌, sym, map, Option, Some, None}
 use Rattle.std.proofs.lemmas.List.{take_more, map-append}
-use Rattle.table_rows.specs.Logic.{and, or, all_of, any_of}
+use Rattle.table_machine.specs.Logic.{and, or, all_of, any_of}
 
 pub and-assoc : (a b c : Option Bool) → and (and a b) c ≡ and a (and b c)
 and-assoc (Some false) b c = refl

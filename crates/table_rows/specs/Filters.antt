@@ -5,16 +5,16 @@ use Rattle.std.specs.declared.cmp.Ordering.TheVariants.{Equal}
 use Rattle.std.specs.Ordering.{is_lt, then_cmp}
 use Rattle.sql_tree.specs.declared.condition.Op.{Op}
 use Rattle.sql_tree.specs.declared.condition.Op.TheVariants as op
-use Rattle.table_rows.specs.declared.cell.Cell.{Cell}
-use Rattle.table_rows.specs.declared.cell.Cell.TheVariants as cell
+use Rattle.table_machine.specs.declared.cell.Cell.{Cell}
+use Rattle.table_machine.specs.declared.cell.Cell.TheVariants as cell
 use Rattle.table_rows.specs.declared.filter.Term.{Term}
 use Rattle.table_rows.specs.declared.filter.Term.TheVariants as term
 use Rattle.table_rows.specs.declared.filter.Filter.{Filter}
 use Rattle.table_rows.specs.declared.filter.Filter.TheOpen.{Filter-F}
 use Rattle.table_rows.specs.declared.filter.Filter.TheFolds.{fold-Filter}
 use Rattle.table_rows.specs.declared.sorting.SortKey.{SortKey}
-use Rattle.table_rows.specs.Logic.{all_of, any_of, negated, is_true, holds}
-use Rattle.table_rows.specs.Stored.{compare, order, is_null, prefix}
+use Rattle.table_machine.specs.Logic.{all_of, any_of, negated, is_true, holds}
+use Rattle.table_machine.specs.Stored.{compare, order, is_null, prefix}
 
 abbrev pub cell_at : List Cell → ℕ → Cell
 cell_at row place = slice_index_or row place cell.Null

@@ -1,11 +1,3 @@
-pub mod Logic
-pub mod Columns
-pub mod Sort
-pub mod Machine
-pub mod Stored
+pub mod Looking
 pub mod Filters
-pub mod Carry
-pub mod Faults
-pub mod Tables
 pub mod Reading
-pub mod Reordered

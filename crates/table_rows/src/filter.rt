@@ -2,9 +2,9 @@
 
 ghost use Rattle.std.specs.Prelude.{◌≡◌};
 ghost use Rattle.table_rows.specs.Filters as spec;
-ghost use Rattle.table_rows.specs.Stored.{seen};
+ghost use Rattle.table_rows.specs.Looking.{seen};
 
-use crate::cell::Cell;
+use table_machine::Cell;
 use crate::logic::{and, holds, negated, or};
 use crate::seen::{Seen, cell_at, compare, prefix, see};
 use acra_base::Sequence;

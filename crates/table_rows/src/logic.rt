@@ -1,7 +1,7 @@
 //! Three-valued logic, in which `None` is unknown.
 
 ghost use Rattle.std.specs.Prelude.{◌≡◌};
-ghost use Rattle.table_rows.specs.Logic as spec;
+ghost use Rattle.table_machine.specs.Logic as spec;
 
 use sql_tree::Op;
 use std::cmp::Ordering;

@@ -2,10 +2,11 @@
 
 ghost use Rattle.std.specs.Prelude.{◌≡◌, take};
 ghost use Rattle.table_rows.specs.Filters as filters;
-ghost use Rattle.table_rows.specs.Stored.{compare, is_null, order, prefix, seen};
-ghost use Rattle.table_rows.specs.Faults.{are_equal};
+ghost use Rattle.table_machine.specs.Stored.{compare, is_null, order, prefix};
+ghost use Rattle.table_rows.specs.Looking.{seen};
+ghost use Rattle.table_machine.specs.Faults.{are_equal};
 
-use crate::cell::Cell;
+use table_machine::Cell;
 use std::cmp::Ordering;
 
 /// A cell looked at without a copy.

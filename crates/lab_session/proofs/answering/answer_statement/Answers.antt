@@ -3,7 +3,7 @@ use Rattle.rand_chacha.specs.ChaCha.{ChaCha}
 use Rattle.acra_block.specs.Keys.{Key}
 use Rattle.keystore.specs.Rings.{view_of}
 use Rattle.keystore.specs.declared.keys.Lease.{Lease}
-use Rattle.plain_tables.specs.Requests.{Request}
+use Rattle.session_model.specs.Requests.{Request}
 use Rattle.lab_session.specs.Leases.{needs_lease}
 use Rattle.lab_session.specs.Session.{awaits_startup, Rests}
 use Rattle.lab_session.specs.Answering.{AnswerGives}

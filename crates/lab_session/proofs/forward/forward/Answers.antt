@@ -1,5 +1,5 @@
 use Rattle.std.proofs.Common.{◌∙◌}
-use Rattle.plain_tables.specs.Shown.{shown_message}
+use Rattle.session_model.specs.Shown.{shown_message}
 use Rattle.lab_session.specs.Cells.{opened_by}
 use Rattle.lab_session.proofs.Forwarded.{is_fed, never_idles, makes_reply, forwards, fails, when_true, when_false}
 use Rattle.acra_base.specs.declared.no_memory.NoMemory.{NoMemory}

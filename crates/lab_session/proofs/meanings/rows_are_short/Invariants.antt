@@ -1,7 +1,7 @@
 use Rattle.std.proofs.Common.{◌≡◌, List, drop}
 use Rattle.std.specs.List.{list_all}
 use Rattle.sql_tree.specs.declared.condition.Operand.{Operand}
-use Rattle.plain_tables.specs.Meanings.{is_short_value}
+use Rattle.session_model.specs.Meanings.{is_short_value}
 use Rattle.lab_session.proofs.meanings.rows_are_short.Given as goal
 
 abbrev pub invariant-rows : goal.invariant-rows

@@ -1,7 +1,7 @@
 use Rattle.std.proofs.Common.{◌++◌, ◌∙◌, ap}
 use Rattle.pg_wire.specs.declared.back.Back.{Back}
 use Rattle.pg_wire.specs.Backs.{back_frame}
-use Rattle.plain_tables.specs.Refusals.{refusal_message}
+use Rattle.session_model.specs.Refusals.{refusal_message}
 use Rattle.lab_session.proofs.AnswerLaws.{error_is, alone_bytes}
 use Rattle.lab_session.proofs.refusing.refusal_reply.Goals as goal
 

@@ -1,5 +1,5 @@
 use Rattle.std.proofs.Common.{arith}
-use Rattle.plain_tables.specs.Shown.{shown_message}
+use Rattle.session_model.specs.Shown.{shown_message}
 use Rattle.lab_session.specs.Cells.{opened_by}
 use Rattle.lab_session.proofs.Relayed.{stopped, next_shown, one_more, breaks, smaller}
 use Rattle.lab_session.proofs.relay.relay.Goals as goal

@@ -1,6 +1,6 @@
 use Rattle.std.proofs.Common.{◌≤◌, List, length}
 use Rattle.pg_wire.specs.declared.back.Back.{Back}
-use Rattle.plain_tables.specs.Shown.{shown_message}
+use Rattle.session_model.specs.Shown.{shown_message}
 use Rattle.lab_session.specs.Cells.{opened_by}
 use Rattle.lab_session.specs.Relaying.{IsReply}
 use Rattle.lab_session.proofs.Relayed.{Shown}

@@ -1,6 +1,6 @@
 use Rattle.std.proofs.Common.{◌++◌, List, ℕ, sym, subst, ap, ◌∙◌}
 use Rattle.pg_wire.specs.Backs.{back_frame}
-use Rattle.lab_service.specs.Replies.{IsWritable}
+use Rattle.machine_replies.specs.Replies.{IsWritable}
 use Rattle.lab_session.proofs.Showable.{shown_writable}
 use Rattle.lab_session.proofs.Relayed.{sent_as, failed_sends}
 use Rattle.lab_session.proofs.relay.send_shown.Goals as goal

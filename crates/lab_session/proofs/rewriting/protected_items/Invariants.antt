@@ -1,5 +1,5 @@
 use Rattle.std.proofs.Common.{◌≡◌, map, take}
-use Rattle.plain_tables.specs.Rewritten.{is_protected}
+use Rattle.session_model.specs.Rewritten.{is_protected}
 use Rattle.lab_session.proofs.rewriting.protected_items.Given as goal
 
 abbrev pub invariant-items : goal.invariant-items

@@ -1,5 +1,5 @@
 use Rattle.std.proofs.Common.{◌≡◌, map, take}
-use Rattle.plain_tables.specs.Rewritten.{rewritten_value}
+use Rattle.session_model.specs.Rewritten.{rewritten_value}
 use Rattle.lab_session.proofs.rewriting.rewritten_row.Given as goal
 
 abbrev pub invariant-values : goal.invariant-values

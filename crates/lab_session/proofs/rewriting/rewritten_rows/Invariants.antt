@@ -1,5 +1,5 @@
 use Rattle.std.proofs.Common.{◌≡◌, map, take}
-use Rattle.plain_tables.specs.Rewritten.{rewritten_value}
+use Rattle.session_model.specs.Rewritten.{rewritten_value}
 use Rattle.lab_session.proofs.rewriting.rewritten_rows.Given as goal
 
 abbrev pub invariant-rows : goal.invariant-rows

@@ -2,7 +2,7 @@ use Rattle.std.proofs.Common.{◌≡◌, ℕ, Bool, true, List, [], ◌∷◌, �
 use Rattle.acra_base.specs.declared.no_memory.NoMemory.{NoMemory}
 use Rattle.acra_block.specs.Keys.{Key}
 use Rattle.keystore.specs.Rings.{current_of}
-use Rattle.plain_tables.specs.Requests.{Request}
+use Rattle.session_model.specs.Requests.{Request}
 use Rattle.lab_session.specs.Runs.{started, state_after_all}
 use Rattle.lab_session.specs.Session.{Rests, Ends, may_begin}
 use Rattle.lab_session.specs.Answering.{request_of, CanAnswer}

@@ -1,7 +1,7 @@
 use Rattle.std.proofs.Common.{◌≡◌, Some, List, ◌+◌, ◌-◌, ◌*◌, ◌^◌, ◌≤◌, length}
 use Rattle.acra_block.specs.Keys.{Key}
 use Rattle.keystore.specs.Rings.{current_of}
-use Rattle.plain_tables.specs.Requests.{Request}
+use Rattle.session_model.specs.Requests.{Request}
 use Rattle.lab_session.specs.Leases.{after_leases}
 use Rattle.lab_session.specs.Session.{SoFar}
 use Rattle.lab_session.proofs.session.first_session.Given as goal

@@ -1,5 +1,5 @@
 use Rattle.std.proofs.Common.{drop}
-use Rattle.plain_tables.specs.Shown.{as_text}
+use Rattle.session_model.specs.Shown.{as_text}
 use Rattle.lab_session.proofs.Protecting.{all_shown}
 use Rattle.lab_session.proofs.showing.described_fields.Goals as goal
 

@@ -1,5 +1,5 @@
 use Rattle.std.proofs.Common.{◌≡◌, ◌++◌, drop}
-use Rattle.plain_tables.specs.Shown.{described}
+use Rattle.session_model.specs.Shown.{described}
 use Rattle.lab_session.proofs.showing.described_fields.Given as goal
 
 abbrev pub invariant-fields : goal.invariant-fields

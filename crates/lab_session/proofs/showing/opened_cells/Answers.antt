@@ -1,5 +1,5 @@
 use Rattle.std.proofs.Common.{drop}
-use Rattle.plain_tables.specs.Shown.{shown_cell}
+use Rattle.session_model.specs.Shown.{shown_cell}
 use Rattle.lab_session.specs.Cells.{opened_by}
 use Rattle.lab_session.proofs.Protecting.{all_shown}
 use Rattle.lab_session.proofs.showing.opened_cells.Goals as goal

@@ -1,5 +1,5 @@
 use Rattle.std.proofs.Common.{◌≡◌, ◌++◌, drop}
-use Rattle.plain_tables.specs.Shown.{shown_cells}
+use Rattle.session_model.specs.Shown.{shown_cells}
 use Rattle.lab_session.specs.Cells.{opened_by}
 use Rattle.lab_session.proofs.showing.opened_cells.Given as goal
 

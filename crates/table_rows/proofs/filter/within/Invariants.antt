@@ -1,6 +1,6 @@
 use Rattle.std.proofs.Common.{◌≡◌, take, map}
 use Rattle.sql_tree.specs.declared.condition.Op.TheVariants as op
-use Rattle.table_rows.specs.Logic.{any_of}
+use Rattle.table_machine.specs.Logic.{any_of}
 use Rattle.table_rows.specs.Filters.{compared}
 use Rattle.table_rows.proofs.filter.within.Given as goal
 

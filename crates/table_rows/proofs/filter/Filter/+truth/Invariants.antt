@@ -1,5 +1,5 @@
 use Rattle.std.proofs.Common.{◌≡◌, take, map}
-use Rattle.table_rows.specs.Logic.{all_of, any_of}
+use Rattle.table_machine.specs.Logic.{all_of, any_of}
 use Rattle.table_rows.specs.Filters.{truth}
 use Rattle.table_rows.proofs.filter.Filter.+truth.Given as goal
 

@@ -1,0 +1,8 @@
+use Rattle.std.proofs.Common.{◌≡◌, take}
+use Rattle.std.specs.List.{flat_map}
+use Rattle.sql_tree.specs.Spelling.{operand_parameters}
+use Rattle.sql_tree.specs.WellFormed.{has_one}
+use Rattle.lab_backend.proofs.parameters.has_parameter_in_list.Given as goal
+
+abbrev pub invariant-operands : goal.invariant-operands
+invariant-operands l = l.any ≡ has_one (flat_map operand_parameters (take l.operand-index l.operands))

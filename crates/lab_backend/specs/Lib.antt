@@ -1,0 +1,5 @@
+pub mod Described
+pub mod Sessions
+pub mod Backend
+pub mod Serving
+pub mod Laws

@@ -1,5 +1,0 @@
-use Rattle.lab_service.proofs.Answered.{read-grammatical}
-use Rattle.lab_service.proofs.tests.executed.Goals as goal
-
-pub exec-requires : goal.exec-requires
-exec-requires c = read-grammatical c.args.text.now c.in_ok-statement.statement c.in_ok-statement.ensures.told

@@ -1,6 +1,0 @@
-pub mod Replies
-pub mod Described
-pub mod Sessions
-pub mod Backend
-pub mod Serving
-pub mod Laws

@@ -1,7 +1,0 @@
-use Rattle.std.proofs.Common.{◌≡◌, map, take}
-use Rattle.table_rows.specs.Stored.{seen}
-use Rattle.lab_tables.specs.Changing.{keys_in}
-use Rattle.lab_tables.proofs.changes.keys_of.Given as goal
-
-abbrev pub invariant-rows : goal.invariant-rows
-invariant-rows l = map seen l.keys.items ≡ keys_in l.place (take l.row-index l.rows)

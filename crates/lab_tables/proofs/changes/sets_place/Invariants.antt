@@ -1,6 +1,0 @@
-use Rattle.std.proofs.Common.{◌≡◌, drop}
-use Rattle.lab_tables.specs.Changing.{sets_place}
-use Rattle.lab_tables.proofs.changes.sets_place.Given as goal
-
-abbrev pub invariant-sets : goal.invariant-sets
-invariant-sets l = sets_place l.place (drop l.set-index l.sets) ≡ sets_place l.place l.sets

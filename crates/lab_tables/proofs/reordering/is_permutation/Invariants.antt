@@ -1,5 +1,0 @@
-use Rattle.lab_tables.proofs.Permuted.{Marked}
-use Rattle.lab_tables.proofs.reordering.is_permutation.Given as goal
-
-abbrev pub invariant-places : goal.invariant-places
-invariant-places l = Marked l.places l.count l.place-index l.taken.items

@@ -1,5 +1,0 @@
-use Rattle.plain_tables.proofs.Carried.{tables_stored}
-use Rattle.plain_tables.proofs.laws.tables_still_stand.Goals as goal
-
-pub returns : goal.returns
-returns c owner cell tree rows is e = tables_stored owner cell e tree is rows

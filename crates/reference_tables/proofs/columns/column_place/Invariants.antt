@@ -1,6 +1,0 @@
-use Rattle.std.proofs.Common.{◌≡◌, ◌+◌, drop}
-use Rattle.table_rows.specs.Columns.{column_place}
-use Rattle.reference_tables.proofs.columns.column_place.Given as goal
-
-abbrev pub invariant-columns : goal.invariant-columns
-invariant-columns l = column_place l.columns l.name ≡ column_place (drop l.index l.columns) l.name + l.index

@@ -1,5 +1,0 @@
-use Rattle.table_checks.proofs.Bindings.{ok_as, before_alike}
-use Rattle.table_checks.proofs.results.bind_keys.Goals as goal
-
-pub returns : goal.returns
-returns c = ok_as _ _ (λ keys h. before_alike c.args.columns.now c.args.order.now keys.items h) c.bind_places.result c.bind_places.ensures

@@ -1,7 +1,0 @@
--- Names that no column has.
-use Rattle.std.specs.Prelude.{ℕ, Bool, not, List}
-use Rattle.table_rows.specs.declared.table.ColumnDef.{ColumnDef}
-use Rattle.table_rows.specs.Columns.{has_column}
-
-abbrev pub is_unknown : List ColumnDef → List ℕ → Bool
-is_unknown columns name = not (has_column columns name)

@@ -1,0 +1,10 @@
+pub mod Logic
+pub mod Columns
+pub mod Sort
+pub mod SortMaps
+pub mod Machine
+pub mod Stored
+pub mod Carry
+pub mod Faults
+pub mod Tables
+pub mod Reordered

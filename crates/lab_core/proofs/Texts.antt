@@ -20,7 +20,7 @@ use Rattle.sql_tree.specs.declared.statement.Statement.{Statement}
 use Rattle.sql_tree.specs.Parts.{Spelled, Column, Value}
 use Rattle.sql_tree.specs.Grammar.{Some1, Item, Items, Select, Body, Text, text_tree}
 use Rattle.sql_tree.specs.Spelling.{IsGapless, Spells, tokens_of}
-use Rattle.sql_parser.specs.Outcome.{IsOutcome, SpelledAs}
+use Rattle.sql_outcomes.specs.Outcome.{IsOutcome, SpelledAs}
 use Rattle.plain_tables.specs.Meanings.{text_limit, Means}
 use Rattle.plain_tables.specs.declared.meaning.Meaning.TheVariants as meaning
 use Rattle.lab_core.specs.Example.{insert_text, insert_tree, select_text, select_tree}

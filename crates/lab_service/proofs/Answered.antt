@@ -8,10 +8,10 @@ use Rattle.pg_wire.specs.declared.back.Back.{Back}
 use Rattle.pg_wire.specs.Backs.{back_frame}
 use Rattle.sql_tree.specs.declared.statement.Statement.{Statement}
 use Rattle.sql_tree.specs.WellFormed.{is_grammatical}
-use Rattle.sql_parser.specs.declared.refusal.SqlRefusal.{SqlRefusal}
-use Rattle.sql_parser.specs.Outcome.{IsOutcome}
-use Rattle.sql_parser.proofs.Outcomes.{one_outcome}
-use Rattle.sql_parser.proofs.Wellformed.{spelled_is_statement}
+use Rattle.sql_outcomes.specs.declared.refusal.SqlRefusal.{SqlRefusal}
+use Rattle.sql_outcomes.specs.Outcome.{IsOutcome}
+use Rattle.sql_derivations.proofs.Outcomes.{one_outcome}
+use Rattle.sql_derivations.proofs.Wellformed.{spelled_is_statement}
 use Rattle.table_rows.specs.declared.cell.Cell.{Cell}
 use Rattle.table_rows.specs.Tables.{Table}
 use Rattle.lab_service.specs.Laws.{OneReply}

@@ -8,8 +8,8 @@ use Rattle.pg_wire.specs.Backs.{back_frame}
 use Rattle.sql_tree.specs.declared.statement.Statement.{Statement}
 use Rattle.sql_tree.specs.Spelling.{parameters}
 use Rattle.sql_tree.specs.WellFormed.{has_one}
-use Rattle.sql_parser.specs.Outcome as parsed
-use Rattle.sql_parser.specs.Outcome.{IsOutcome}
+use Rattle.sql_outcomes.specs.Outcome as parsed
+use Rattle.sql_outcomes.specs.Outcome.{IsOutcome}
 use Rattle.table_rows.specs.declared.cell.Cell.{Cell}
 use Rattle.table_rows.specs.Stored.{stored}
 use Rattle.table_rows.specs.Tables.{Table, answered, executed, told}

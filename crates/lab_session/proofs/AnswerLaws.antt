@@ -19,9 +19,9 @@ use Rattle.sql_tree.specs.declared.statement.Statement.{Statement}
 use Rattle.sql_tree.specs.Spelling.{parameters}
 use Rattle.sql_tree.specs.WellFormed.{has_one}
 use Rattle.sql_tree.specs.Depths.{statement_depth}
-use Rattle.sql_parser.specs.Outcome.{Outcome, IsOutcome}
-use Rattle.sql_parser.proofs.Outcomes.{one_outcome}
-use Rattle.sql_parser.proofs.Parsed.{canonical_text_is_parsed}
+use Rattle.sql_outcomes.specs.Outcome.{Outcome, IsOutcome}
+use Rattle.sql_derivations.proofs.Outcomes.{one_outcome}
+use Rattle.sql_derivations.proofs.Parsed.{canonical_text_is_parsed}
 use Rattle.table_rows.specs.declared.cell.Cell.{Cell}
 use Rattle.table_rows.specs.Stored.{stored}
 use Rattle.table_rows.specs.Tables.{Table, answered, executed, told}

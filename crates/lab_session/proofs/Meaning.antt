@@ -1,9 +1,9 @@
 -- What a text asks, by what parsing it told.
 use Rattle.std.proofs.Common.{◌≡◌, ℕ, List, Err, sym, ap, subst, ◌∙◌}
-use Rattle.sql_parser.specs.declared.refusal.SqlRefusal.{SqlRefusal}
-use Rattle.sql_parser.specs.declared.refusal.ParseFault.{ParseFault}
-use Rattle.sql_parser.specs.declared.refusal.ParseFault.TheVariants as fault
-use Rattle.sql_parser.specs.Outcome.{Outcome, IsOutcome, IsTold}
+use Rattle.sql_outcomes.specs.declared.refusal.SqlRefusal.{SqlRefusal}
+use Rattle.sql_outcomes.specs.declared.refusal.ParseFault.{ParseFault}
+use Rattle.sql_outcomes.specs.declared.refusal.ParseFault.TheVariants as fault
+use Rattle.sql_outcomes.specs.Outcome.{Outcome, IsOutcome, IsTold}
 use Rattle.plain_tables.specs.declared.meaning.Meaning.{Meaning}
 use Rattle.plain_tables.specs.declared.meaning.Meaning.TheVariants as meaning
 use Rattle.plain_tables.specs.declared.refusal.Refusal.{Refusal}

@@ -2,9 +2,9 @@
 use Rattle.std.proofs.Common.{◌≡◌, ℕ, ◌&&◌, Bool, true, false, if◌then◌else◌, List, Ok, Err, refl, sym, ap, subst, ◌∙◌}
 use Rattle.std.proofs.lemmas.Bool.{and_parts}
 use Rattle.sql_tree.specs.declared.statement.Statement.{Statement}
-use Rattle.sql_parser.specs.Outcome.{Outcome, IsOutcome}
-use Rattle.sql_parser.proofs.Outcomes.{one_outcome}
-use Rattle.sql_parser.proofs.Wellformed.{spelled_is_statement}
+use Rattle.sql_outcomes.specs.Outcome.{Outcome, IsOutcome}
+use Rattle.sql_derivations.proofs.Outcomes.{one_outcome}
+use Rattle.sql_derivations.proofs.Wellformed.{spelled_is_statement}
 use Rattle.plain_tables.specs.declared.meaning.Meaning.{Meaning}
 use Rattle.plain_tables.specs.declared.meaning.Meaning.TheVariants as meaning
 use Rattle.plain_tables.specs.declared.refusal.Refusal.TheVariants as why

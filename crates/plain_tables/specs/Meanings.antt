@@ -5,9 +5,9 @@ use Rattle.sql_tree.specs.declared.condition.Operand.{Operand}
 use Rattle.sql_tree.specs.declared.condition.Operand.TheVariants as operand
 use Rattle.sql_tree.specs.declared.statement.Statement.{Statement}
 use Rattle.sql_tree.specs.declared.statement.Statement.TheVariants as statement
-use Rattle.sql_parser.specs.declared.refusal.SqlKind.TheVariants as kind
-use Rattle.sql_parser.specs.declared.refusal.SqlRefusal.{SqlRefusal}
-use Rattle.sql_parser.specs.Outcome.{Outcome, IsOutcome}
+use Rattle.sql_outcomes.specs.declared.refusal.SqlKind.TheVariants as kind
+use Rattle.sql_outcomes.specs.declared.refusal.SqlRefusal.{SqlRefusal}
+use Rattle.sql_outcomes.specs.Outcome.{Outcome, IsOutcome}
 use Rattle.plain_tables.specs.declared.meaning.Meaning.{Meaning}
 use Rattle.plain_tables.specs.declared.meaning.Meaning.TheVariants as meaning
 use Rattle.plain_tables.specs.declared.refusal.Refusal.{Refusal}

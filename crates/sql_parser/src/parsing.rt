@@ -14,8 +14,9 @@ ghost use Rattle.sql_outcomes.specs.declared.refusal.SqlKind.TheVariants as kind
 
 use crate::outside::outside_place;
 use acra_base::NoMemory;
+use sql_checks::{are_gapless, is_too_deep, qualifiers_agree};
 use sql_outcomes::{ParseFault, SqlKind, SqlRefusal};
-use sql_reading::{Cursor, Reading, Stop, are_gapless, is_too_deep, qualifiers_agree, read_whole};
+use sql_reading::{Cursor, Reading, Stop, read_whole};
 use sql_tokens::{TokenSlice, lex};
 use sql_tree::Statement;
 use std::alloc::Global;

@@ -7,6 +7,4 @@ pub mod Held
 pub mod Shrinking
 pub mod Lists
 pub mod Chosen
-pub mod Gapless
 pub mod Small
-pub mod Deep

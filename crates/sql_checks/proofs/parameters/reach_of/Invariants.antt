@@ -1,7 +1,7 @@
 use Rattle.std.proofs.Common.{◌≡◌, ◌||◌, max, length}
 use Rattle.sql_tree.specs.Shapes.{most}
-use Rattle.sql_reading.proofs.Gapless.{has, numbers_of}
-use Rattle.sql_reading.proofs.parameters.reach_of.Given as goal
+use Rattle.sql_checks.proofs.Gapless.{has, numbers_of}
+use Rattle.sql_checks.proofs.parameters.reach_of.Given as goal
 
 abbrev pub invariant-tokens : goal.invariant-tokens
 invariant-tokens l = record {

@@ -1,8 +1,8 @@
 use Rattle.std.proofs.Common.{ap, ◌∙◌, sym, map, ◌+◌, ◌-◌, nat_lt}
 use Rattle.std.proofs.lemmas.List.{take_all}
 use Rattle.sql_tree.specs.Shapes.{node_depth, most}
-use Rattle.sql_reading.proofs.Deep.{depth-And, depth-Or, one_deeper, none_deeper, no_deeper}
-use Rattle.sql_reading.proofs.depth.+is_deeper.Goals as goal
+use Rattle.sql_checks.proofs.Deep.{depth-And, depth-Or, one_deeper, none_deeper, no_deeper}
+use Rattle.sql_checks.proofs.depth.+is_deeper.Goals as goal
 
 pub returns-then-is_deeper : goal.returns-then-is_deeper
 returns-then-is_deeper t c =

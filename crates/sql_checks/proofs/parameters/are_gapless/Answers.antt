@@ -1,7 +1,7 @@
 use Rattle.std.proofs.Common.{refl, sym, ◌∙◌, arith}
 use Rattle.std.proofs.lemmas.Bool.{false≢true}
-use Rattle.sql_reading.proofs.Gapless.{numbers_of, gapless, no_zero, marks_tell}
-use Rattle.sql_reading.proofs.parameters.are_gapless.Goals as goal
+use Rattle.sql_checks.proofs.Gapless.{numbers_of, gapless, no_zero, marks_tell}
+use Rattle.sql_checks.proofs.parameters.are_gapless.Goals as goal
 
 pub returns-then-zero : goal.returns-then-zero
 returns-then-zero c = (λ h. absurd (false≢true h), λ g. absurd (no_zero (numbers_of c.args.tokens.now) (sym c.reach_of-zero.ensures.zero ∙ c.if-zero.true) g))

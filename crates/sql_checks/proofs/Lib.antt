@@ -1,0 +1,2 @@
+pub mod Gapless
+pub mod Deep

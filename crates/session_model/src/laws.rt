@@ -11,7 +11,7 @@ pub fn tables_still_stand()
     ensures { TablesStand }
 {}
 
-/// What the owner of all protected cells is shown of the stored tables' reply to a served statement is what the plaintext
+/// What the owner of all protected cells is shown of the stored reply to a served statement is what the plaintext
 /// tables reply.
 pub fn replies_stand()
     ensures { RepliesStand }

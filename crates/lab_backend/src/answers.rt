@@ -15,12 +15,12 @@ use crate::parameters::has_parameter;
 use crate::replies::{write_error, write_ready, write_startup};
 use crate::results::write_outcome;
 use acra_base::NoMemory;
-use table_store::Tables;
 use pg_wire::Front;
 use sql_parser::{ParseFault, parse};
 use sql_tree::Statement;
 use std::alloc::Global;
 use table_machine::Outcome;
+use table_store::Tables;
 
 /// Executes a request and appends its reply.
 pub fn answer_request(

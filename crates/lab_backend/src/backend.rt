@@ -6,9 +6,9 @@ ghost use Rattle.lab_backend.specs.Sessions.{new_session, session_fed};
 use crate::answers::answer_request;
 use crate::sessions::Sessions;
 use acra_base::NoMemory;
-use table_store::Tables;
 use std::alloc::Global;
 use std::marker::Model;
+use table_store::Tables;
 
 /// The lab's backend.
 #[derive(Drop)]

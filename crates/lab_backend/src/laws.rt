@@ -5,7 +5,7 @@ pub fn one_oldest()
     ensures { OneOldest }
 {}
 
-/// A request and the tables determine the reply and the tables then.
+/// A request of a session and the tables determine the reply and the tables then: there is at most one.
 pub fn one_reply()
     ensures { OneReply }
 {}

@@ -8,8 +8,8 @@ ghost use Rattle.lab_session.specs.Relaying.{IsIdle, ForwardGives, CanSend};
 
 use crate::relay::relay;
 use crate::stop::Stop;
-use acra_devices::Sink;
 use acra_block::KeyView;
+use acra_devices::Sink;
 use lab_backend::LabBackend;
 use pg_wire::{Front, write_front};
 use std::alloc::Global;

@@ -3,9 +3,9 @@ ghost use Rattle.acra_base.specs.Names.{is_name};
 ghost use Rattle.session_model.specs.Notes.{notes_with};
 
 use acra_base::{Bytes, Name, NoMemory, Sequence, ValueKind};
-use table_store::Tables;
 use std::alloc::Global;
 use table_machine::{ColumnDef, TableDef};
+use table_store::Tables;
 
 fn named(alloc: Global, name: &[u8]) -> Result<Name, NoMemory>
     requires { is_name name.now ≡ true }

@@ -12,8 +12,8 @@ use crate::send::send;
 use crate::showing::show;
 use crate::stop::Stop;
 use acra_base::NoMemory;
-use acra_devices::Sink;
 use acra_block::KeyView;
+use acra_devices::Sink;
 use pg_wire::{Back, Framer, NextFault, ReadBody, Side, read_back, write_back};
 use std::alloc::Global;
 

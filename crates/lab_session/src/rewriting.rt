@@ -5,9 +5,9 @@ ghost use Rattle.session_model.specs.Meanings.{has_short_strings};
 ghost use Rattle.lab_session.specs.Runs.{cell_for, drawn_for};
 
 use acra_base::{Bytes, Name, NoMemory, Sequence};
-use acra_devices::SureRandom;
 use acra_block::{CellKind, OwnerKey, seal_cell};
 use acra_crypto::Aes256Gcm;
+use acra_devices::SureRandom;
 use sql_tree::{Item, Items, Operand, Statement, Whole};
 use std::alloc::Global;
 

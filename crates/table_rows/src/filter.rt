@@ -4,12 +4,12 @@ ghost use Rattle.std.specs.Prelude.{◌≡◌};
 ghost use Rattle.table_rows.specs.Filters as spec;
 ghost use Rattle.table_rows.specs.Looking.{seen};
 
-use table_machine::Cell;
 use crate::logic::{and, holds, negated, or};
 use crate::seen::{Seen, cell_at, compare, prefix, see};
 use acra_base::Sequence;
 use sql_tree::Op;
 use sqlite_items::{Boxed, Items};
+use table_machine::Cell;
 
 /// What is compared.
 #[derive(Debug, Drop)]

@@ -10,11 +10,11 @@ ghost use Rattle.table_machine.specs.Machine as machine;
 ghost use Rattle.table_machine.specs.declared.cell.Cell.TheVariants as cells;
 ghost use Rattle.std.specs.Fmt.{signed_decimal};
 
-use table_machine::Cell;
 use acra_base::{Bytes, NoMemory, ValueKind};
 use plain_values::{ValueRefusal, read_number, read_text};
 use sql_tree::Operand;
 use std::alloc::Global;
+use table_machine::Cell;
 
 /// Why a value is not read.
 #[derive(Clone, Copy, Debug, PartialEq, Eq)]

@@ -6,8 +6,8 @@ ghost use Rattle.table_machine.specs.Stored.{compare, is_null, order, prefix};
 ghost use Rattle.table_rows.specs.Looking.{seen};
 ghost use Rattle.table_machine.specs.Faults.{are_equal};
 
-use table_machine::Cell;
 use std::cmp::Ordering;
+use table_machine::Cell;
 
 /// A cell looked at without a copy.
 #[derive(Clone, Copy)]

@@ -5,11 +5,11 @@ ghost use Rattle.table_store.specs.Shelves.{IsTable};
 
 use crate::shared::{alone, are_told, column};
 use acra_base::{Bytes, Name, Sequence, ValueKind};
+use sql_tree::{Item, Items};
 use std::alloc::Global;
 use std::test::Fail;
 use table_binder::out_columns;
 use table_machine::{Cell, TableDef, cells_are_carried};
-use sql_tree::{Item, Items};
 
 /// The table notes with the columns id, int4, name, text, body, bytea, and size, int8, and no key.
 fn notes(alloc: Global) -> Result<TableDef, Fail>
@@ -51,12 +51,12 @@ UPDATE notes SET size = -2 WHERE id IS NULL | 1
 SELECT * FROM notes ORDER BY size DESC | 7,ann,\xff,9,;NULL,ann,\x00,-2,;
 UPDATE notes SET body = '\x4a4B' | 2
 SELECT body FROM notes WHERE substr(body, 1, 33) = '\x4a4b' | \x4a4b,;\x4a4b,;
-UPDATE notes SET size = $2 | 2
-SELECT size FROM notes LIMIT 1 | 2147483648,;
-UPDATE notes SET name = $2 | 2
-SELECT name FROM notes LIMIT 1 | 2147483648,;
-UPDATE notes SET id = $2 | 22003 lab: value out of range for column "id"
-UPDATE notes SET body = $2 | 22P02 lab: bad value for column "body""#;
+UPDATE notes SET size = $2 WHERE id = $1 | 1
+SELECT size FROM notes WHERE id = $1 | 2147483648,;
+UPDATE notes SET name = $2 WHERE id = $1 | 1
+SELECT name FROM notes WHERE id = $1 | 2147483648,;
+UPDATE notes SET id = $2 WHERE id = $1 | 22003 lab: value out of range for column "id"
+UPDATE notes SET body = $2 WHERE id = $1 | 22P02 lab: bad value for column "body""#;
 
 #[test]
 fn parts_are_bound(rt: HostRuntime) -> Result<(), Fail> {

@@ -78,7 +78,8 @@ const NOT_DONE: &str = r#"UPDATE t SET n = 'y' WHERE s = d | 0A000 lab: not done
 UPDATE t SET k = NULL WHERE s = d | 0A000 lab: not done"#;
 
 /// Values, the first of two, before the key.
-const VALUES: &str = r#"INSERT INTO t (k, n) VALUES (2, 'y'), (9223372036854775808, 1) | 22P02 lab: bad value for column "n"
+const VALUES: &str =
+    r#"INSERT INTO t (k, n) VALUES (2, 'y'), (9223372036854775808, 1) | 22P02 lab: bad value for column "n"
 INSERT INTO t (k, n) VALUES (9223372036854775808, 'y') | 22003 lab: value out of range for column "k"
 UPDATE t SET n = 'y' WHERE k = 9223372036854775808 | 22P02 lab: bad value for column "n"
 INSERT INTO t (k, n) VALUES (NULL, 'y') | 22P02 lab: bad value for column "n""#;
@@ -110,7 +111,12 @@ fn too_wide(alloc: Global) -> Result<String, Fail> {
 fn the_first_fault_is_named(rt: HostRuntime) -> Result<(), Fail> {
     let alloc = rt.alloc();
     let mut tables = alone(alloc, keyed(alloc)?)?;
-    are_told(&rt, alloc, &mut tables, "INSERT INTO t VALUES (1, 1, 'a') | 1")?;
+    are_told(
+        &rt,
+        alloc,
+        &mut tables,
+        "INSERT INTO t VALUES (1, 1, 'a') | 1",
+    )?;
     'groups: for cases in GROUPS {
         are_told(&rt, alloc, &mut tables, cases)?;
     }

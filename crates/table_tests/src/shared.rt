@@ -17,6 +17,7 @@ use table_store::Tables;
 /// Texts of at most so many bytes are read.
 const TEXT_LIMIT: u32 = 1 << 27;
 
+/// A column of this name and kind.
 pub fn column(alloc: Global, name: &[u8], kind: ValueKind) -> Result<ColumnDef, Fail>
     requires { is_name name.now ≡ true }
     ensures { IfOk result (λ c. c ≡ record { name = name.now; kind = kind }) }

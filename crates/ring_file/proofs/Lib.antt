@@ -8,3 +8,4 @@ pub mod Restored
 pub mod Sorted
 pub mod Bodies
 pub mod Sealed
+pub mod Long

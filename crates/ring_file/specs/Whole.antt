@@ -1,10 +1,10 @@
 -- A file that is read whole.
 use Rattle.std.specs.Prelude.{ℕ, ◌≡◌, ◌<◌, List, length, Result, Ok, Err}
-use Rattle.key_files.specs.declared.whole.WholeFault.{WholeFault}
-use Rattle.key_files.specs.declared.whole.WholeFault.TheVariants as faults
+use Rattle.ring_file.specs.declared.whole.FileRefusal.{FileRefusal}
+use Rattle.ring_file.specs.declared.whole.FileRefusal.TheVariants as faults
 
 -- all bytes of the file, or it has more than the limit; a failed read or no memory may come instead
-abbrev pub IsWholly : ℕ → Result (List ℕ) WholeFault → List ℕ → Type 0
+abbrev pub IsWholly : ℕ → Result (List ℕ) FileRefusal → List ℕ → Type 0
 IsWholly limit (Ok bytes) file = bytes ≡ file
 IsWholly limit (Err faults.TooLong) file = limit < length file
 IsWholly limit (Err faults.ReadFault) file = Unit {0}

@@ -1,8 +1,8 @@
 -- The file of the master key: 64 hexadecimal digits of either case, and a newline or not.
 use Rattle.std.specs.Prelude.{ℕ, ◌≡◌, ◌-◌, ◌&&◌, ◌==◌, nat_le, if◌then◌else◌, List, length, take, slice_index, Option, Some, None, Result, Ok, Err}
 use Rattle.hex.specs.Hex.{decode_sized}
-use Rattle.key_files.specs.declared.master.MasterFault.{MasterFault}
-use Rattle.key_files.specs.declared.master.MasterFault.TheVariants as faults
+use Rattle.ring_file.specs.declared.master.MasterFault.{MasterFault}
+use Rattle.ring_file.specs.declared.master.MasterFault.TheVariants as faults
 
 -- without a newline at its end
 abbrev pub stem : List ℕ → List ℕ

@@ -1,22 +1,22 @@
-use super::*;
+use ring_file::{FileRefusal, MasterFault, read_file, read_master};
 use acra_devices::{MemLink, SureLink};
 use std::alloc::Global;
 use std::test::Fail;
 
 /// What a source with so many bytes gives under a limit: how many were read.
-fn whole_of(alloc: Global, len: usize, limit: usize) -> Result<Result<usize, WholeFault>, Fail> {
+fn whole_of(alloc: Global, len: usize, limit: usize) -> Result<Result<usize, FileRefusal>, Fail> {
     let mut bytes = Vec::new(alloc);
     'bytes: for place in 0..len {
         bytes.push((place % 251) as u8)?;
     }
     let mut source = SureLink::new(alloc, bytes);
-    Ok(read_whole(alloc, &mut source, limit).map(|read| read.len()))
+    Ok(read_file(alloc, &mut source, limit).map(|read| read.len()))
 }
 
 #[test]
 fn limits(rt: HostRuntime) -> Result<(), Fail> {
     let alloc = rt.alloc();
-    let long = Err(WholeFault::TooLong);
+    let long = Err(FileRefusal::TooLong);
     let cases = [
         (0, 0, Ok(0)),
         (1, 0, long),

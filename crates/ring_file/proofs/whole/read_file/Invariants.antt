@@ -1,6 +1,6 @@
 use Rattle.std.proofs.Common.{◌-◌, ◌≤◌, length}
 use Rattle.acra_devices.specs.Known.{Shrank}
-use Rattle.key_files.proofs.whole.read_whole.Given as goal
+use Rattle.ring_file.proofs.whole.read_file.Given as goal
 
 abbrev pub invariant-pieces : goal.invariant-pieces
 invariant-pieces g l = record {

@@ -1,4 +1,4 @@
-use super::*;
+use ring_file::{RingFault, read_ring, write_ring};
 use acra_base::ClientId;
 use acra_crypto::{Aead, TrialAead};
 use keystore::{NewKeys, Ring};

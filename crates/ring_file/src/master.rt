@@ -1,8 +1,8 @@
 ghost use Rattle.std.specs.Prelude.{◌≡◌, ◌≤◌, ℕ, List, Some, true, is_some, IsErrOf};
 ghost use Rattle.acra_devices.specs.Causes.{Rose};
-ghost use Rattle.key_files.specs.Master.{stem, master_of, MasterIs};
+ghost use Rattle.ring_file.specs.Master.{stem, master_of, MasterIs};
 
-use crate::whole::{WholeFault, read_whole};
+use crate::whole::{FileRefusal, read_file};
 use acra_devices::Source;
 use std::alloc::Global;
 
@@ -49,13 +49,13 @@ pub fn read_master<S: Source>(alloc: Global, file: &mut S) -> Result<[u8; 32], M
     ensures later { S.read_faults file.old ≤ S.read_faults file.new }
     ensures fault { IsErrOf result MasterFault.ReadFault → Rose (S.read_faults file.old) (S.read_faults file.new) }
 {
-    match read_whole(alloc, file, MASTER_LIMIT) {
+    match read_file(alloc, file, MASTER_LIMIT) {
         Ok(text) => match master_of(text.as_slice()) {
             Some(key) => Ok(key),
             None => Err(MasterFault::NoKey),
         },
-        Err(WholeFault::TooLong) => Err(MasterFault::NoKey),
-        Err(WholeFault::ReadFault) => Err(MasterFault::ReadFault),
-        Err(WholeFault::NoMemory) => Err(MasterFault::NoMemory),
+        Err(FileRefusal::TooLong) => Err(MasterFault::NoKey),
+        Err(FileRefusal::ReadFault) => Err(MasterFault::ReadFault),
+        Err(FileRefusal::NoMemory) => Err(MasterFault::NoMemory),
     }
 }

@@ -4,7 +4,7 @@ use Rattle.std.proofs.lemmas.List.{length-take}
 use Rattle.hex.specs.Hex.{decode_sized}
 use Rattle.hex.specs.declared.error.FromHexError.{FromHexError}
 use Rattle.hex.proofs.HexLemmas.{decode_sized-ok}
-use Rattle.key_files.specs.Master.{stem, some_key, master_of}
+use Rattle.ring_file.specs.Master.{stem, some_key, master_of}
 
 cut_length : (b : Bool) (text : List ℕ) → length text ≤ length (if b then take (length text - 1) text else text) + 1
 cut_length true text = omega (arith, length-take (length text - 1) text)

@@ -1,7 +1,7 @@
 pub mod Lasts
 pub mod Names
 pub mod Loops
-pub mod Numbers
+pub mod Judged
 pub mod Rules
 pub mod Keys
 pub mod Restored

@@ -1,5 +1,5 @@
-use ring_file::{FileRefusal, MasterFault, read_file, read_master};
 use acra_devices::{MemLink, SureLink};
+use ring_file::{FileRefusal, MasterFault, read_file, read_master};
 use std::alloc::Global;
 use std::test::Fail;
 

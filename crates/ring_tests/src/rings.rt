@@ -1,7 +1,7 @@
-use ring_file::{RingFault, read_ring, write_ring};
 use acra_base::ClientId;
 use acra_crypto::{Aead, TrialAead};
 use keystore::{NewKeys, Ring};
+use ring_file::{RingFault, read_ring, write_ring};
 use std::alloc::Global;
 use std::test::Fail;
 

@@ -3,7 +3,7 @@ use Rattle.std.proofs.Common.{◌≡◌, ℕ, ◌^◌, ◌<◌, List, length, Re
 use Rattle.acra_crypto.specs.Gcm.{aes256_gcm}
 use Rattle.keystore.specs.Rings.{RingState}
 use Rattle.ring_file.specs.Files.{SpellsRing}
-use Rattle.key_files.specs.Whole.{IsWholly}
+use Rattle.ring_file.specs.Whole.{IsWholly}
 use Rattle.audit_core.specs.Keys.{IsKeystore, NoRing, RingDue}
 
 pub no_long_ring : (master file : List ℕ) → 2 ^ 24 < length file → NoRing master file

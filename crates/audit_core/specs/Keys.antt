@@ -3,7 +3,7 @@ use Rattle.std.specs.Prelude.{ℕ, ◌≡◌, ◌≤◌, ◌^◌, List, length, 
 use Rattle.acra_crypto.specs.Gcm.{aes256_gcm}
 use Rattle.keystore.specs.Rings.{RingState}
 use Rattle.ring_file.specs.Files.{SpellsRing}
-use Rattle.key_files.specs.Master.{master_of}
+use Rattle.ring_file.specs.Master.{master_of}
 use Rattle.audit_core.specs.declared.files.FileFault.{FileFault}
 use Rattle.audit_core.specs.declared.files.FileFault.TheVariants as faults
 

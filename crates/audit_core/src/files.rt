@@ -7,8 +7,7 @@ ghost use Rattle.audit_core.specs.Keys.{MasterFound, RingFound, RingDue};
 
 use acra_devices::Source;
 use acra_crypto::Aes256Gcm;
-use key_files::{MasterFault, WholeFault, read_master, read_whole};
-use ring_file::{RingFault, read_ring};
+use ring_file::{FileRefusal, MasterFault, RingFault, read_file, read_master, read_ring};
 use std::alloc::Global;
 
 /// The keystore's file has at most this many bytes.
@@ -50,15 +49,15 @@ pub fn audit_key<S: Source>(
     ensures later { S.read_faults file.old ≤ S.read_faults file.new }
     ensures fault { IsErrOf result FileFault.ReadFault → Rose (S.read_faults file.old) (S.read_faults file.new) }
 {
-    match read_whole(alloc, file, RING_LIMIT) {
+    match read_file(alloc, file, RING_LIMIT) {
         Ok(bytes) => match read_ring(alloc, &Aes256Gcm, bytes.as_slice(), master) {
             Ok(ring) => Ok(*ring.audit_key()),
             Err(RingFault::NoMemory) => Err(FileFault::NoMemory),
             Err(RingFault::NotSealed) => Err(FileFault::Refused),
             Err(RingFault::BadForm { .. }) => Err(FileFault::Refused),
         },
-        Err(WholeFault::TooLong) => Err(FileFault::Refused),
-        Err(WholeFault::ReadFault) => Err(FileFault::ReadFault),
-        Err(WholeFault::NoMemory) => Err(FileFault::NoMemory),
+        Err(FileRefusal::TooLong) => Err(FileFault::Refused),
+        Err(FileRefusal::ReadFault) => Err(FileFault::ReadFault),
+        Err(FileRefusal::NoMemory) => Err(FileFault::NoMemory),
     }
 }

@@ -22,7 +22,7 @@ use Rattle.ring_file.proofs.Bodies.{body_again}
 use Rattle.keys_core.specs.Work.{new_keys, placed, read_body}
 use Rattle.keys_core.specs.declared.work.Work.{Work}
 use Rattle.keys_core.specs.Again.{ReadsBack, HasFile, MakesFile}
-use Rattle.key_files.specs.Master.{master_of}
+use Rattle.ring_file.specs.Master.{master_of}
 
 -- ---- what is kept reads back
 

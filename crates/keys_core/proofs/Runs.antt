@@ -15,7 +15,7 @@ use Rattle.keys_core.specs.declared.work.Outcome.{Outcome}
 use Rattle.keys_core.specs.declared.work.Outcome.TheVariants as outcomes
 use Rattle.keys_core.specs.Again.{ReadsBack, KeepsRing}
 use Rattle.keys_core.specs.declared.status.RingTrouble.TheVariants as trouble
-use Rattle.key_files.specs.Master.{master_of}
+use Rattle.ring_file.specs.Master.{master_of}
 use Rattle.keys_core.specs.Work.{Run, ended, worked, run_with, run_under, run_of, opened_ring, made_or_read, makes_ring, status_of}
 use Rattle.keys_core.proofs.Limits.{short_ring, long_ring}
 use Rattle.keys_core.specs.Told.{Drew}

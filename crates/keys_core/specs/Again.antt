@@ -3,7 +3,7 @@ use Rattle.std.specs.Prelude.{ℕ, ◌≡◌, Bool, true, false, List, [], ◌�
 use Rattle.acra_crypto.specs.Gcm.{aes256_gcm}
 use Rattle.keystore.specs.Rings.{RingState}
 use Rattle.ring_file.specs.Files.{SpellsRing}
-use Rattle.key_files.specs.Master.{master_of}
+use Rattle.ring_file.specs.Master.{master_of}
 use Rattle.keys_core.specs.declared.words.Ask.{Ask}
 use Rattle.keys_core.specs.declared.words.Ask.TheVariants as asks
 use Rattle.keys_core.specs.declared.work.Work.{Work}

@@ -12,7 +12,7 @@ use Rattle.keystore.specs.Answers.{add_refusal, with_client, retire_refusal, wit
 use Rattle.ring_file.specs.Form.{ring_file}
 use Rattle.ring_file.specs.Reading.{ring_read}
 use Rattle.ring_file.specs.Files.{file_body}
-use Rattle.key_files.specs.Master.{master_of}
+use Rattle.ring_file.specs.Master.{master_of}
 use Rattle.keys_core.specs.declared.words.Ask.{Ask}
 use Rattle.keys_core.specs.declared.words.Ask.TheVariants as asks
 use Rattle.keys_core.specs.declared.status.RingTrouble.{RingTrouble}

@@ -1,7 +1,7 @@
 ghost use Rattle.std.specs.Prelude.{◌≡◌, ◌≤◌, ◌↔◌, ℕ, List, map, string_bytes, true, Option, Some, None, is_some, IfOk, IfErr, MatchResult};
 ghost use Rattle.rand_core.specs.Stream.{Stream};
 ghost use Rattle.keys_core.specs.Words.{asked};
-ghost use Rattle.key_files.specs.Master.{master_of};
+ghost use Rattle.ring_file.specs.Master.{master_of};
 ghost use Rattle.keys_core.specs.Work.{makes_ring, made_or_read, run_with, run_of};
 ghost use Rattle.keys_core.specs.Again.{changes, HasFile, MakesFile, KeepsRing};
 ghost use Rattle.keys_core.specs.Runs.{CausedBy, StopCaused, FinishCaused, MasterAs, PreparedAs, IsKept, FinishedAs, WhereTold, IsRun};
@@ -16,7 +16,7 @@ use crate::words::{Ask, ask_of};
 use crate::work::{Outcome, Stop, Work, done_work};
 use acra_base::Bytes;
 use acra_devices::{Failed, Keeper, Random, Sink, Source, write_whole};
-use key_files::{MasterFault, WholeFault, read_master, read_whole};
+use ring_file::{FileRefusal, MasterFault, read_file, read_master};
 use std::alloc::Global;
 
 /// The most bytes of a ring's file.
@@ -91,15 +91,15 @@ fn prepare<S: Source, T: Source, R: Random>(
     ensures cause { IfErr result (λ status. StopCaused status (S.read_faults master.old) (S.read_faults master.new) (T.read_faults ring.old) (T.read_faults ring.new) (R.draw_faults random.old) (R.draw_faults random.new)) }
 {
     match master_key(alloc, master) {
-        Ok(key) => match read_whole(alloc, ring, RING_LIMIT) {
+        Ok(key) => match read_file(alloc, ring, RING_LIMIT) {
             Ok(bytes) => worked(alloc, ask, &key, bytes.as_slice(), random),
-            Err(WholeFault::TooLong) => Err(KeysStatus::RingRefused {
+            Err(FileRefusal::TooLong) => Err(KeysStatus::RingRefused {
                 why: RingTrouble::TooLong,
             }),
-            Err(WholeFault::ReadFault) => Err(KeysStatus::ReadFault {
+            Err(FileRefusal::ReadFault) => Err(KeysStatus::ReadFault {
                 file: KeyFile::Ring,
             }),
-            Err(WholeFault::NoMemory) => Err(KeysStatus::NoMemory),
+            Err(FileRefusal::NoMemory) => Err(KeysStatus::NoMemory),
         },
         Err(status) => Err(status),
     }

@@ -2,9 +2,10 @@
 use Rattle.std.proofs.Common.{◌≡◌, ℕ, Bool, true, false, cond, eqb, List, [], ◌++◌, length, Result, Ok, Err, refl, sym, ap, subst, ◌∙◌}
 use Rattle.std.proofs.lemmas.Bool.{eqb-true}
 use Rattle.std.proofs.lemmas.List.{append-nil, nil_from_length}
-use Rattle.pg_wire.specs.Bodies.{◌>>=◌, alone, mapped}
-use Rattle.pg_wire.proofs.Shorter.{bind_ok, ok_is}
-use Rattle.pg_wire.proofs.Numbers.{Takes}
+use Rattle.byte_reader.proofs.Steps.{bind_ok, ok_is}
+use Rattle.byte_reader.proofs.Taken.{Takes}
+use Rattle.byte_reader.specs.Fields.{◌>>=◌, alone}
+use Rattle.pg_wire.specs.Bodies.{mapped}
 
 -- what is read of a body, if anything, is a message with a spelling, and its kind is k
 pub record Arm (M : Type 0) (IsM : M → Type 0) (kind_of : M → ℕ) (body_of : M → List ℕ) (k : ℕ) (body : List ℕ) (read : Result (M × List ℕ) ℕ) : Type 0 where

@@ -5,13 +5,16 @@ use Rattle.std.proofs.lemmas.Bool.{eqb-true, or_cases}
 use Rattle.std.proofs.lemmas.List.{append-nil}
 use Rattle.pg_wire.specs.declared.back.Back.{Back}
 use Rattle.pg_wire.specs.declared.back.Back.TheVariants as backs
-use Rattle.pg_wire.specs.Parts.{str, pair_bytes, IsWord, IsCell, cell_bytes, counted_items, listed_items}
+use Rattle.byte_reader.proofs.Widths.{be_wide32, number_takes, number_again}
+use Rattle.byte_reader.proofs.Steps.{bind_ok, ok_is}
+use Rattle.byte_reader.proofs.Taken.{IsBytes, Takes, Takes-then}
+use Rattle.byte_reader.proofs.Texts.{str_takes, str_again}
+use Rattle.byte_reader.specs.Fields.{str, ◌>>=◌, be_number_at, str_at, alone}
+use Rattle.pg_wire.specs.Parts.{pair_bytes, IsWord, IsCell, cell_bytes, counted_items, listed_items}
 use Rattle.pg_wire.specs.Backs.{IsField, field_bytes, IsErrorField, error_bytes, IsState, IsBack, back_kind, back_body}
 use Rattle.pg_wire.specs.Reading.{SpellsBack}
-use Rattle.pg_wire.specs.Bodies.{◌>>=◌, number_at, str_at, pair_at, field_at, cell_at, error_at, state_at, counted_at, listed_at, alone, auth_at, key_data_at, back_at, back_read}
-use Rattle.pg_wire.proofs.Shorter.{bind_ok, ok_is}
-use Rattle.pg_wire.proofs.Numbers.{IsBytes, Takes, Takes-then, wide32, number_takes, number_again}
-use Rattle.pg_wire.proofs.Texts.{str_takes, str_again, pair_takes, pair_again}
+use Rattle.pg_wire.specs.Bodies.{pair_at, field_at, cell_at, error_at, state_at, counted_at, listed_at, auth_at, key_data_at, back_at, back_read}
+use Rattle.pg_wire.proofs.Texts.{pair_takes, pair_again}
 use Rattle.pg_wire.proofs.Items.{counted_takes, counted_again, listed_takes, listed_again}
 use Rattle.pg_wire.proofs.RowLaws.{field_item, word_item, cell_item, error_item}
 use Rattle.pg_wire.proofs.Arms.{Arm, arm_or, no_arm, arm_of, whole, read_alone, made_alone}
@@ -22,22 +25,22 @@ BackArm = Arm Back IsBack back_kind back_body
 auth_arm : (body : List ℕ) → IsBytes body → BackArm 82 body (auth_at body)
 unfolding auth_at
 auth_arm body fits = record { spells = by } where
-  by : (x : Back × List ℕ) → (number_at w32 body >>= λ code. Ok (backs.Auth code.0 code.1, [])) ≡ Ok x → IsBack x.0 × (82 ≡ back_kind x.0) × Takes body (back_body x.0) x.1
+  by : (x : Back × List ℕ) → (be_number_at w32 body >>= λ code. Ok (backs.Auth code.0 code.1, [])) ≡ Ok x → IsBack x.0 × (82 ≡ back_kind x.0) × Takes body (back_body x.0) x.1
   by x e =
-      let a = bind_ok (number_at w32 body) (λ code. Ok (backs.Auth code.0 code.1, [])) x e in
-      let t = number_takes w32 (2 ^ 32) wide32 body a.0 fits a.1 in
+      let a = bind_ok (be_number_at w32 body) (λ code. Ok (backs.Auth code.0 code.1, [])) x e in
+      let t = number_takes w32 (2 ^ 32) be_wide32 body a.0 fits a.1 in
       let all : Takes body (to_be_bytes w32 a.0.0 ++ a.0.1) [] = record { parts = t.0.parts ∙ sym (append-nil _); rest_fits = λ i. omega arith } in
       subst (λ (y : Back × List ℕ). IsBack y.0 × (82 ≡ back_kind y.0) × Takes body (back_body y.0) y.1) (ok_is (backs.Auth a.0.0 a.0.1, []) x a.2) (t.1, refl, all)
 
 key_data_arm : (body : List ℕ) → IsBytes body → BackArm 75 body (key_data_at body)
 unfolding key_data_at
 key_data_arm body fits = record { spells = by } where
-  by : (x : Back × List ℕ) → (number_at w32 body >>= λ process. number_at w32 process.1 >>= λ key. Ok (backs.KeyData process.0 key.0, key.1)) ≡ Ok x → IsBack x.0 × (75 ≡ back_kind x.0) × Takes body (back_body x.0) x.1
+  by : (x : Back × List ℕ) → (be_number_at w32 body >>= λ process. be_number_at w32 process.1 >>= λ key. Ok (backs.KeyData process.0 key.0, key.1)) ≡ Ok x → IsBack x.0 × (75 ≡ back_kind x.0) × Takes body (back_body x.0) x.1
   by x e =
-      let a = bind_ok (number_at w32 body) (λ process. number_at w32 process.1 >>= λ key. Ok (backs.KeyData process.0 key.0, key.1)) x e in
-      let b = bind_ok (number_at w32 a.0.1) (λ key. Ok (backs.KeyData a.0.0 key.0, key.1)) x a.2 in
-      let t = number_takes w32 (2 ^ 32) wide32 body a.0 fits a.1 in
-      let u = number_takes w32 (2 ^ 32) wide32 a.0.1 b.0 t.0.rest_fits b.1 in
+      let a = bind_ok (be_number_at w32 body) (λ process. be_number_at w32 process.1 >>= λ key. Ok (backs.KeyData process.0 key.0, key.1)) x e in
+      let b = bind_ok (be_number_at w32 a.0.1) (λ key. Ok (backs.KeyData a.0.0 key.0, key.1)) x a.2 in
+      let t = number_takes w32 (2 ^ 32) be_wide32 body a.0 fits a.1 in
+      let u = number_takes w32 (2 ^ 32) be_wide32 a.0.1 b.0 t.0.rest_fits b.1 in
       let all = Takes-then body (to_be_bytes w32 a.0.0) a.0.1 (to_be_bytes w32 b.0.0) b.0.1 t.0 u.0 in
       subst (λ (y : Back × List ℕ). IsBack y.0 × (75 ≡ back_kind y.0) × Takes body (back_body y.0) y.1) (ok_is (backs.KeyData a.0.0 b.0.0, b.0.1) x b.2) ((t.1, u.1), refl, all)
 
@@ -81,7 +84,7 @@ back_arms kind body fits =
     (arm_or (empty_arm 50 backs.BindDone body fits tt refl refl)
     (arm_or (empty_arm 51 backs.CloseDone body fits tt refl refl)
     (arm_or (empty_arm 110 backs.NoData body fits tt refl refl)
-    (arm_or (arm_of 116 body backs.Params (counted_at (number_at w32) body) (λ x e. let t = counted_takes (number_at w32) (to_be_bytes w32) IsWord word_item body x fits e in (t.1, refl, t.0)))
+    (arm_or (arm_of 116 body backs.Params (counted_at (be_number_at w32) body) (λ x e. let t = counted_takes (be_number_at w32) (to_be_bytes w32) IsWord word_item body x fits e in (t.1, refl, t.0)))
     (arm_or (empty_arm 115 backs.Suspended body fits tt refl refl)
     no_arm)))))))))))))))
 
@@ -98,13 +101,13 @@ state_again b (inr (inr e)) = rw e refl
 
 auth_again : (code : ℕ) (rest : List ℕ) → code < 2 ^ 32 → auth_at (to_be_bytes w32 code ++ rest) ≡ Ok (backs.Auth code rest, [])
 unfolding auth_at
-auth_again code rest lt = ap (λ (r : Result (ℕ × List ℕ) ℕ). r >>= λ code. Ok (backs.Auth code.0 code.1, [])) (number_again w32 (2 ^ 32) wide32 code rest lt)
+auth_again code rest lt = ap (λ (r : Result (ℕ × List ℕ) ℕ). r >>= λ code. Ok (backs.Auth code.0 code.1, [])) (number_again w32 (2 ^ 32) be_wide32 code rest lt)
 
 key_data_again : (process key : ℕ) → process < 2 ^ 32 → key < 2 ^ 32 → key_data_at (to_be_bytes w32 process ++ to_be_bytes w32 key) ≡ Ok (backs.KeyData process key, [])
 unfolding key_data_at
 key_data_again process key p k =
-    ap (λ (r : Result (ℕ × List ℕ) ℕ). r >>= λ process. number_at w32 process.1 >>= λ key. Ok (backs.KeyData process.0 key.0, key.1)) (number_again w32 (2 ^ 32) wide32 process (to_be_bytes w32 key) p)
-    ∙ ap (λ (r : Result (ℕ × List ℕ) ℕ). r >>= λ key. Ok (backs.KeyData process key.0, key.1)) (read_alone (number_at w32) (to_be_bytes w32 key) key (number_again w32 (2 ^ 32) wide32 key [] k))
+    ap (λ (r : Result (ℕ × List ℕ) ℕ). r >>= λ process. be_number_at w32 process.1 >>= λ key. Ok (backs.KeyData process.0 key.0, key.1)) (number_again w32 (2 ^ 32) be_wide32 process (to_be_bytes w32 key) p)
+    ∙ ap (λ (r : Result (ℕ × List ℕ) ℕ). r >>= λ key. Ok (backs.KeyData process key.0, key.1)) (read_alone (be_number_at w32) (to_be_bytes w32 key) key (number_again w32 (2 ^ 32) be_wide32 key [] k))
 
 -- what is spelled so is read
 pub back_again : (m : Back) → IsBack m → back_read (back_kind m) (back_body m) ≡ Ok m
@@ -133,5 +136,5 @@ back_again backs.CloseDone is = refl
 back_again backs.NoData is = refl
 back_again (backs.Params types) is =
     let text = counted_items (to_be_bytes w32) types in
-    made_alone backs.Params (counted_at (number_at w32) text) types (read_alone (counted_at (number_at w32)) text types (counted_again (number_at w32) (to_be_bytes w32) IsWord word_item types [] is))
+    made_alone backs.Params (counted_at (be_number_at w32) text) types (read_alone (counted_at (be_number_at w32)) text types (counted_again (be_number_at w32) (to_be_bytes w32) IsWord word_item types [] is))
 back_again backs.Suspended is = refl

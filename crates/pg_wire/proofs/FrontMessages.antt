@@ -9,13 +9,15 @@ use Rattle.pg_wire.specs.declared.front.Target.{Target}
 use Rattle.pg_wire.specs.declared.front.Target.TheVariants as targets
 use Rattle.pg_wire.specs.declared.front.Front.{Front}
 use Rattle.pg_wire.specs.declared.front.Front.TheVariants as fronts
-use Rattle.pg_wire.specs.Parts.{IsText, str, pair_bytes, IsWord, IsFormat, IsCell, cell_bytes, AreCounted, counted_items, listed_items}
+use Rattle.byte_reader.proofs.Widths.{be_wide32, number_takes, number_again}
+use Rattle.byte_reader.proofs.Steps.{bind_ok, ok_is}
+use Rattle.byte_reader.proofs.Taken.{IsBytes, Takes, Takes-then}
+use Rattle.byte_reader.proofs.Texts.{str_takes, str_again}
+use Rattle.byte_reader.specs.Fields.{IsText, str, ◌>>=◌, be_number_at, str_at, alone}
+use Rattle.pg_wire.specs.Parts.{pair_bytes, IsWord, IsFormat, IsCell, cell_bytes, AreCounted, counted_items, listed_items}
 use Rattle.pg_wire.specs.Fronts.{IsParam, IsFront, target_byte, front_kind, front_body}
 use Rattle.pg_wire.specs.Reading.{SpellsFront}
-use Rattle.pg_wire.specs.Bodies.{◌>>=◌, ◌followed_by◌, number_at, str_at, pair_at, format_at, cell_at, counted_at, listed_at, alone, mapped, startup_at, parse_at, bind_at, target_at, targeted_at, execute_at, coded_at, front_at, front_read}
-use Rattle.pg_wire.proofs.Shorter.{bind_ok, ok_is}
-use Rattle.pg_wire.proofs.Numbers.{IsBytes, Takes, Takes-then, wide32, number_takes, number_again}
-use Rattle.pg_wire.proofs.Texts.{str_takes, str_again}
+use Rattle.pg_wire.specs.Bodies.{◌followed_by◌, pair_at, format_at, cell_at, counted_at, listed_at, mapped, startup_at, parse_at, bind_at, target_at, targeted_at, execute_at, coded_at, front_at, front_read}
 use Rattle.pg_wire.proofs.Items.{IsItem, both_item, counted_item, listed_takes, listed_again}
 use Rattle.pg_wire.proofs.RowLaws.{str_item, word_item, format_item, cell_item, param_item}
 use Rattle.pg_wire.proofs.Arms.{Arm, arm_or, no_arm, arm_of, whole, read_alone, made_alone}
@@ -43,7 +45,7 @@ target_again targets.Portal rest is = refl
 target_item : IsItem target_at (λ x. target_byte x ∷ []) (λ x. Unit {0})
 target_item = record { takes = target_takes; again = target_again }
 
-parse_item : IsItem (str_at followed_by str_at followed_by counted_at (number_at w32)) (λ x. str x.0.0 ++ str x.0.1 ++ counted_items (to_be_bytes w32) x.1) (λ x. (IsText x.0.0 × IsText x.0.1) × AreCounted IsWord x.1)
+parse_item : IsItem (str_at followed_by str_at followed_by counted_at (be_number_at w32)) (λ x. str x.0.0 ++ str x.0.1 ++ counted_items (to_be_bytes w32) x.1) (λ x. (IsText x.0.0 × IsText x.0.1) × AreCounted IsWord x.1)
 parse_item = both_item (both_item str_item str_item) (counted_item word_item)
 
 bind_item : IsItem (str_at followed_by str_at followed_by counted_at format_at followed_by counted_at cell_at followed_by counted_at format_at)
@@ -54,10 +56,10 @@ bind_item = both_item (both_item (both_item (both_item str_item str_item) (count
 targeted_item : IsItem (target_at followed_by str_at) (λ x. (target_byte x.0 ∷ []) ++ str x.1) (λ x. Unit {0} × IsText x.1)
 targeted_item = both_item target_item str_item
 
-execute_item : IsItem (str_at followed_by number_at w32) (λ x. str x.0 ++ to_be_bytes w32 x.1) (λ x. IsText x.0 × IsWord x.1)
+execute_item : IsItem (str_at followed_by be_number_at w32) (λ x. str x.0 ++ to_be_bytes w32 x.1) (λ x. IsText x.0 × IsWord x.1)
 execute_item = both_item str_item word_item
 
-cancel_item : IsItem (number_at w32 followed_by number_at w32) (λ x. to_be_bytes w32 x.0 ++ to_be_bytes w32 x.1) (λ x. IsWord x.0 × IsWord x.1)
+cancel_item : IsItem (be_number_at w32 followed_by be_number_at w32) (λ x. to_be_bytes w32 x.0 ++ to_be_bytes w32 x.1) (λ x. IsWord x.0 × IsWord x.1)
 cancel_item = both_item word_item word_item
 
 -- ---- startup packets
@@ -95,11 +97,11 @@ gss_coded body rest = record { spells = λ x e t. subst (λ (y : Front × List �
 abbrev pub cancelled : ℕ × ℕ → Front
 cancelled x = fronts.Cancel x.0 x.1
 
-cancel_coded : (body rest : List ℕ) → Coded body 80877102 rest (mapped cancelled ((number_at w32 followed_by number_at w32) rest))
+cancel_coded : (body rest : List ℕ) → Coded body 80877102 rest (mapped cancelled ((be_number_at w32 followed_by be_number_at w32) rest))
 cancel_coded body rest = record { spells = by } where
-  by : (x : Front × List ℕ) → mapped cancelled ((number_at w32 followed_by number_at w32) rest) ≡ Ok x → Takes body (to_be_bytes w32 80877102) rest → IsFront x.0 × (0 ≡ front_kind x.0) × Takes body (front_body x.0) x.1
+  by : (x : Front × List ℕ) → mapped cancelled ((be_number_at w32 followed_by be_number_at w32) rest) ≡ Ok x → Takes body (to_be_bytes w32 80877102) rest → IsFront x.0 × (0 ≡ front_kind x.0) × Takes body (front_body x.0) x.1
   by x e t =
-      let a = bind_ok ((number_at w32 followed_by number_at w32) rest) (λ y. Ok (cancelled y.0, y.1)) x e in
+      let a = bind_ok ((be_number_at w32 followed_by be_number_at w32) rest) (λ y. Ok (cancelled y.0, y.1)) x e in
       let u = cancel_item.takes rest a.0 t.rest_fits a.1 in
       let both = Takes-then body (to_be_bytes w32 80877102) rest (to_be_bytes w32 a.0.0.0 ++ to_be_bytes w32 a.0.0.1) a.0.1 t u.0 in
       let regrouped : to_be_bytes w32 80877102 ++ (to_be_bytes w32 a.0.0.0 ++ to_be_bytes w32 a.0.0.1) ≡ front_body (cancelled a.0.0) = sym (append_assoc (to_be_bytes w32 80877102) (to_be_bytes w32 a.0.0.0) (to_be_bytes w32 a.0.0.1)) in
@@ -111,17 +113,17 @@ code_coded body len code = coded_or (opened_coded body code.1) (coded_or (ssl_co
 startup_arm : (body : List ℕ) → IsBytes body → FrontArm 0 body (startup_at body)
 unfolding startup_at
 startup_arm body fits = record { spells = by } where
-  by : (x : Front × List ℕ) → (number_at w32 body >>= coded_at (length body)) ≡ Ok x → IsFront x.0 × (0 ≡ front_kind x.0) × Takes body (front_body x.0) x.1
+  by : (x : Front × List ℕ) → (be_number_at w32 body >>= coded_at (length body)) ≡ Ok x → IsFront x.0 × (0 ≡ front_kind x.0) × Takes body (front_body x.0) x.1
   by x e =
-      let a = bind_ok (number_at w32 body) (coded_at (length body)) x e in
-      (code_coded body (length body) a.0).spells x a.2 (number_takes w32 (2 ^ 32) wide32 body a.0 fits a.1).0
+      let a = bind_ok (be_number_at w32 body) (coded_at (length body)) x e in
+      (code_coded body (length body) a.0).spells x a.2 (number_takes w32 (2 ^ 32) be_wide32 body a.0 fits a.1).0
 
 -- ---- messages with a type byte
 
 parse_arm : (body : List ℕ) → IsBytes body → FrontArm 80 body (parse_at body)
 unfolding parse_at
 parse_arm body fits =
-    arm_of 80 body (λ x. fronts.Parse x.0.0 x.0.1 x.1) ((str_at followed_by str_at followed_by counted_at (number_at w32)) body)
+    arm_of 80 body (λ x. fronts.Parse x.0.0 x.0.1 x.1) ((str_at followed_by str_at followed_by counted_at (be_number_at w32)) body)
     (λ x e. let t = parse_item.takes body x fits e in (record { named = t.1.0.0; spelled = t.1.0.1; types_fit = t.1.1 }, refl, t.0))
 
 bind_arm : (body : List ℕ) → IsBytes body → FrontArm 66 body (bind_at body)
@@ -140,7 +142,7 @@ close_arm body fits = arm_of 67 body (λ x. fronts.Close x.0 x.1) ((target_at fo
 
 execute_arm : (body : List ℕ) → IsBytes body → FrontArm 69 body (execute_at body)
 unfolding execute_at
-execute_arm body fits = arm_of 69 body (λ x. fronts.Execute x.0 x.1) ((str_at followed_by number_at w32) body) (λ x e. let t = execute_item.takes body x fits e in (t.1, refl, t.0))
+execute_arm body fits = arm_of 69 body (λ x. fronts.Execute x.0 x.1) ((str_at followed_by be_number_at w32) body) (λ x e. let t = execute_item.takes body x fits e in (t.1, refl, t.0))
 
 -- a message of which all is this text
 just_arm : (k : ℕ) (m : Front) (body rest : List ℕ) → IsFront m → k ≡ front_kind m → Takes body (front_body m) rest → FrontArm k body (Ok (m, rest))
@@ -173,7 +175,7 @@ front_spelled kind body m fits e = whole (front_arms kind body fits) m e
 code_again : (code : ℕ) (text : List ℕ) (x : Front × List ℕ) → code < 2 ^ 32 → coded_at (length (to_be_bytes w32 code ++ text)) (code, text) ≡ Ok x → startup_at (to_be_bytes w32 code ++ text) ≡ Ok x
 unfolding startup_at
 code_again code text x lt e =
-    ap (λ (r : Result (ℕ × List ℕ) ℕ). r >>= coded_at (length (to_be_bytes w32 code ++ text))) (number_again w32 (2 ^ 32) wide32 code text lt) ∙ e
+    ap (λ (r : Result (ℕ × List ℕ) ℕ). r >>= coded_at (length (to_be_bytes w32 code ++ text))) (number_again w32 (2 ^ 32) be_wide32 code text lt) ∙ e
 
 startup_again : (params : List Pair) → AllByRecursion IsParam params → startup_at (front_body (fronts.Startup params)) ≡ Ok (fronts.Startup params, [])
 startup_again params is =
@@ -184,7 +186,7 @@ startup_again params is =
 cancel_again : (process key : ℕ) → process < 2 ^ 32 → key < 2 ^ 32 → startup_at (front_body (fronts.Cancel process key)) ≡ Ok (fronts.Cancel process key, [])
 cancel_again process key p k =
     let text = to_be_bytes w32 process ++ to_be_bytes w32 key in
-    let two : (number_at w32 followed_by number_at w32) text ≡ Ok ((process, key), []) = read_alone (number_at w32 followed_by number_at w32) text (process, key) (cancel_item.again (process, key) [] (p, k)) in
+    let two : (be_number_at w32 followed_by be_number_at w32) text ≡ Ok ((process, key), []) = read_alone (be_number_at w32 followed_by be_number_at w32) text (process, key) (cancel_item.again (process, key) [] (p, k)) in
     ap startup_at (append_assoc (to_be_bytes w32 80877102) (to_be_bytes w32 process) (to_be_bytes w32 key)) ∙ code_again 80877102 text (fronts.Cancel process key, []) (omega arith) (ap (mapped cancelled) two)
 
 -- what is spelled as an item is read as it

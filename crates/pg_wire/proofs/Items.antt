@@ -4,9 +4,11 @@ use Rattle.std.specs.List.{flat_map, AllByRecursion}
 use Rattle.std.specs.Int.{w16, to_be_bytes}
 use Rattle.std.proofs.lemmas.List.{length-append}
 use Rattle.pg_wire.specs.Parts.{AreCounted, counted_items, listed_items}
-use Rattle.pg_wire.specs.Bodies.{◌>>=◌, ◌followed_by◌, number_at, items_at, counted_at, ended_at, listed_at}
-use Rattle.pg_wire.proofs.Shorter.{bind_ok, ok_is}
-use Rattle.pg_wire.proofs.Numbers.{IsBytes, Takes, Takes-then, wide16, number_takes, number_again}
+use Rattle.byte_reader.proofs.Widths.{be_wide16, number_takes, number_again}
+use Rattle.byte_reader.proofs.Steps.{bind_ok, ok_is}
+use Rattle.byte_reader.proofs.Taken.{IsBytes, IsBytes-rest, Takes, Takes-then}
+use Rattle.byte_reader.specs.Fields.{◌>>=◌, be_number_at}
+use Rattle.pg_wire.specs.Bodies.{◌followed_by◌, items_at, counted_at, ended_at, listed_at}
 
 -- an item with its spelling
 pub record IsItem {A : Type 0} (item : List ℕ → Result (A × List ℕ) ℕ) (spell : A → List ℕ) (Fits : A → Type 0) : Type 0 where
@@ -41,8 +43,8 @@ pub counted_takes : {A : Type 0} (item : List ℕ → Result (A × List ℕ) ℕ
     → (bytes : List ℕ) (x : List A × List ℕ) → IsBytes bytes → counted_at item bytes ≡ Ok x → Takes bytes (counted_items spell x.0) x.1 × AreCounted Fits x.0
 unfolding counted_at
 counted_takes item spell Fits is bytes x fits e =
-    let a = bind_ok (number_at w16 bytes) (λ n. items_at item n.0 n.1) x e in
-    let first = number_takes w16 (2 ^ 16) wide16 bytes a.0 fits a.1 in
+    let a = bind_ok (be_number_at w16 bytes) (λ n. items_at item n.0 n.1) x e in
+    let first = number_takes w16 (2 ^ 16) be_wide16 bytes a.0 fits a.1 in
     let second = items_take item spell Fits is a.0.0 a.0.1 x first.0.rest_fits a.2 in
     let both = Takes-then bytes (to_be_bytes w16 a.0.0) a.0.1 (flat_map spell x.0) x.1 first.0 second.0 in
     (subst (λ (k : ℕ). Takes bytes (to_be_bytes w16 k ++ flat_map spell x.0) x.1) (sym second.1) both, (omega (arith, second.1, first.1), second.2))
@@ -52,7 +54,7 @@ pub counted_again : {A : Type 0} (item : List ℕ → Result (A × List ℕ) ℕ
 unfolding counted_at
 counted_again item spell Fits is xs rest fits =
     let regrouped : counted_items spell xs ++ rest ≡ to_be_bytes w16 (length xs) ++ (flat_map spell xs ++ rest) = append_assoc (to_be_bytes w16 (length xs)) (flat_map spell xs) rest in
-    ap (counted_at item) regrouped ∙ rw (number_again w16 (2 ^ 16) wide16 (length xs) (flat_map spell xs ++ rest) fits.0) (items_again item spell Fits is xs rest fits.1)
+    ap (counted_at item) regrouped ∙ rw (number_again w16 (2 ^ 16) be_wide16 (length xs) (flat_map spell xs ++ rest) fits.0) (items_again item spell Fits is xs rest fits.1)
 
 pub counted_item : {A : Type 0} {item : List ℕ → Result (A × List ℕ) ℕ} {spell : A → List ℕ} {Fits : A → Type 0} → IsItem item spell Fits → IsItem (counted_at item) (counted_items spell) (AreCounted Fits)
 counted_item {A} {item} {spell} {Fits} is = record { takes = counted_takes item spell Fits is; again = counted_again item spell Fits is }
@@ -85,9 +87,6 @@ pub record IsListed {A : Type 0} (item : List ℕ → Result (A × List ℕ) ℕ
   pub takes : (b : ℕ) (bytes : List ℕ) (x : A × List ℕ) → IsBytes (suc b ∷ bytes) → item (suc b ∷ bytes) ≡ Ok x → Takes (suc b ∷ bytes) (spell x.0) x.1 × Fits x.0
   pub again : (x : A) (rest : List ℕ) → Fits x → item (spell x ++ rest) ≡ Ok (x, rest)
   pub begins : (x : A) → Fits x → (b : ℕ) × (tail : List ℕ) × (spell x ≡ suc b ∷ tail)
-
-IsBytes-rest : (b : ℕ) (bytes : List ℕ) → IsBytes (b ∷ bytes) → IsBytes bytes
-IsBytes-rest b bytes h i = h (suc i)
 
 ended_takes : {A : Type 0} (item : List ℕ → Result (A × List ℕ) ℕ) (spell : A → List ℕ) (Fits : A → Type 0) → IsListed item spell Fits
     → (n : ℕ) (bytes : List ℕ) (x : List A × List ℕ) → IsBytes bytes → ended_at item n bytes ≡ Ok x → Takes bytes (listed_items spell x.0) x.1 × AllByRecursion Fits x.0

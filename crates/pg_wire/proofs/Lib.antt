@@ -3,7 +3,6 @@ pub mod Heads
 pub mod Framed
 pub mod Loops
 pub mod Shorter
-pub mod Numbers
 pub mod Texts
 pub mod Items
 pub mod RowLaws

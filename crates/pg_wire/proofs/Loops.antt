@@ -1,10 +1,11 @@
 -- Reading items one after the other, as a loop does.
 use Rattle.std.proofs.Common.{◌≡◌, ℕ, zero, suc, ◌-◌, ◌+◌, ◌≤◌, ◌<◌, List, [], ◌∷◌, ◌++◌, length, get_or, take, drop, Result, Ok, Err, refl, sym, ap, ◌∙◌, append_assoc, arith}
 use Rattle.std.proofs.lemmas.List.{append-nil, take_rest}
-use Rattle.pg_wire.specs.declared.fields.Unread.{Unread}
-use Rattle.pg_wire.specs.declared.fields.Unread.TheVariants as unread
-use Rattle.pg_wire.specs.Bodies.{◌>>=◌, items_at, ended_at}
-use Rattle.pg_wire.specs.Readers.{Fails}
+use Rattle.byte_reader.specs.declared.unread.Unread.{Unread}
+use Rattle.byte_reader.specs.declared.unread.Unread.TheVariants as unread
+use Rattle.byte_reader.specs.Fields.{◌>>=◌}
+use Rattle.pg_wire.specs.Bodies.{items_at, ended_at}
+use Rattle.byte_reader.specs.Readers.{Fails}
 
 -- what was read before, and what is still read
 abbrev pub with_front : {A : Type 0} → List A → Result (List A × List ℕ) ℕ → Result (List A × List ℕ) ℕ

@@ -5,7 +5,7 @@ use Rattle.pg_wire.specs.declared.back.Back.{Back}
 use Rattle.pg_wire.specs.Fronts.{IsFront, front_kind, front_body}
 use Rattle.pg_wire.specs.Backs.{IsBack, back_kind, back_body}
 use Rattle.pg_wire.specs.Bodies.{front_read, back_read}
-use Rattle.pg_wire.proofs.Shorter.{ok_is}
+use Rattle.byte_reader.proofs.Steps.{ok_is}
 use Rattle.pg_wire.proofs.FrontMessages.{front_again}
 use Rattle.pg_wire.proofs.BackMessages.{back_again}
 

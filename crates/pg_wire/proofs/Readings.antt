@@ -6,7 +6,7 @@ use Rattle.pg_wire.specs.declared.front.Front.{Front}
 use Rattle.pg_wire.specs.declared.back.Back.{Back}
 use Rattle.pg_wire.specs.Reading.{SpellsFront, SpellsBack, ReadsAs, ReadsExactly}
 use Rattle.pg_wire.specs.Bodies.{back_read, front_read}
-use Rattle.pg_wire.proofs.Shorter.{ok_is}
+use Rattle.byte_reader.proofs.Steps.{ok_is}
 use Rattle.pg_wire.proofs.Within.{back_left, front_left}
 use Rattle.pg_wire.proofs.FrontMessages.{front_again}
 use Rattle.pg_wire.proofs.BackMessages.{back_again}

@@ -8,13 +8,16 @@ use Rattle.std.proofs.Math.Facts.{sfits_to_z, Fits-of_z}
 use Rattle.pg_wire.specs.declared.back.Field.{Field}
 use Rattle.pg_wire.specs.declared.back.ErrorField.{ErrorField}
 use Rattle.pg_wire.specs.declared.front.Pair.{Pair}
-use Rattle.pg_wire.specs.Parts.{IsText, str, pair_bytes, IsWord, IsFormat, IsCell, cell_bytes}
+use Rattle.byte_reader.proofs.Widths.{be_wide16, be_wide32, number_takes, number_again}
+use Rattle.byte_reader.proofs.Steps.{bind_ok, ok_is}
+use Rattle.byte_reader.proofs.Taken.{IsBytes, Takes, Takes-then, bytes_take, bytes_again}
+use Rattle.byte_reader.proofs.Texts.{str_takes, str_again, text_first}
+use Rattle.byte_reader.specs.Fields.{IsText, str, ◌>>=◌, be_number_at, bytes_at, str_at}
+use Rattle.pg_wire.specs.Parts.{pair_bytes, IsWord, IsFormat, IsCell, cell_bytes}
 use Rattle.pg_wire.specs.Fronts.{IsParam}
 use Rattle.pg_wire.specs.Backs.{IsField, field_bytes, IsErrorField, error_bytes}
-use Rattle.pg_wire.specs.Bodies.{◌>>=◌, number_at, bytes_at, str_at, pair_at, format_at, field_at, cell_at, error_at}
-use Rattle.pg_wire.proofs.Shorter.{bind_ok, ok_is}
-use Rattle.pg_wire.proofs.Numbers.{IsBytes, Takes, Takes-then, wide16, wide32, number_takes, number_again, bytes_take, bytes_again}
-use Rattle.pg_wire.proofs.Texts.{str_takes, str_again, pair_takes, pair_again, text_first}
+use Rattle.pg_wire.specs.Bodies.{pair_at, format_at, field_at, cell_at, error_at}
+use Rattle.pg_wire.proofs.Texts.{pair_takes, pair_again}
 use Rattle.pg_wire.proofs.Items.{IsItem, IsListed}
 
 abbrev ok_none : List ℕ → Result (Option (List ℕ) × List ℕ) ℕ
@@ -28,22 +31,22 @@ kept_ok false d x y e = absurd cc
 format_takes : (bytes : List ℕ) (x : ℕ × List ℕ) → IsBytes bytes → format_at bytes ≡ Ok x → Takes bytes (to_be_bytes w16 x.0) x.1 × (x.0 < 2)
 unfolding format_at
 format_takes bytes x fits e =
-    let a = bind_ok (number_at w16 bytes) (λ n. cond (ltb n.0 2) (Ok n) (Err (length bytes))) x e in
+    let a = bind_ok (be_number_at w16 bytes) (λ n. cond (ltb n.0 2) (Ok n) (Err (length bytes))) x e in
     let g = kept_ok (ltb a.0.0 2) (length bytes) a.0 x a.2 in
-    let t = number_takes w16 (2 ^ 16) wide16 bytes a.0 fits a.1 in
+    let t = number_takes w16 (2 ^ 16) be_wide16 bytes a.0 fits a.1 in
     subst (λ (y : ℕ × List ℕ). Takes bytes (to_be_bytes w16 y.0) y.1 × (y.0 < 2)) g.1 (t.0, ltb-true _ _ g.0)
 
 format_again : (n : ℕ) (rest : List ℕ) → n < 2 → format_at (to_be_bytes w16 n ++ rest) ≡ Ok (n, rest)
 unfolding format_at
-format_again n rest lt = rw (number_again w16 (2 ^ 16) wide16 n rest (omega arith), lt-ltb n 2 lt) refl
+format_again n rest lt = rw (number_again w16 (2 ^ 16) be_wide16 n rest (omega arith), lt-ltb n 2 lt) refl
 
 -- ---- fields by themselves
 
 pub str_item : IsItem str_at str IsText
 str_item = record { takes = str_takes; again = str_again }
 
-pub word_item : IsItem (number_at w32) (to_be_bytes w32) IsWord
-word_item = record { takes = number_takes w32 (2 ^ 32) wide32; again = number_again w32 (2 ^ 32) wide32 }
+pub word_item : IsItem (be_number_at w32) (to_be_bytes w32) IsWord
+word_item = record { takes = number_takes w32 (2 ^ 32) be_wide32; again = number_again w32 (2 ^ 32) be_wide32 }
 
 pub format_item : IsItem format_at (to_be_bytes w16) IsFormat
 format_item = record { takes = format_takes; again = format_again }
@@ -58,19 +61,19 @@ abbrev pub with_modifier : List ℕ → ℕ → ℕ → ℕ → ℕ → ℕ × L
 with_modifier name table attribute kind size modifier = format_at modifier.1 >>= with_format name table attribute kind size modifier.0
 
 abbrev pub with_size : List ℕ → ℕ → ℕ → ℕ → ℕ × List ℕ → Result (Field × List ℕ) ℕ
-with_size name table attribute kind size = number_at w32 size.1 >>= with_modifier name table attribute kind size.0
+with_size name table attribute kind size = be_number_at w32 size.1 >>= with_modifier name table attribute kind size.0
 
 abbrev pub with_kind : List ℕ → ℕ → ℕ → ℕ × List ℕ → Result (Field × List ℕ) ℕ
-with_kind name table attribute kind = number_at w16 kind.1 >>= with_size name table attribute kind.0
+with_kind name table attribute kind = be_number_at w16 kind.1 >>= with_size name table attribute kind.0
 
 abbrev pub with_attribute : List ℕ → ℕ → ℕ × List ℕ → Result (Field × List ℕ) ℕ
-with_attribute name table attribute = number_at w32 attribute.1 >>= with_kind name table attribute.0
+with_attribute name table attribute = be_number_at w32 attribute.1 >>= with_kind name table attribute.0
 
 abbrev pub with_table : List ℕ → ℕ × List ℕ → Result (Field × List ℕ) ℕ
-with_table name table = number_at w16 table.1 >>= with_attribute name table.0
+with_table name table = be_number_at w16 table.1 >>= with_attribute name table.0
 
 abbrev pub with_name : List ℕ × List ℕ → Result (Field × List ℕ) ℕ
-with_name name = number_at w32 name.1 >>= with_table name.0
+with_name name = be_number_at w32 name.1 >>= with_table name.0
 
 -- the spelling of a column, grouped as it is read
 abbrev column : List ℕ → ℕ → ℕ → ℕ → ℕ → ℕ → ℕ → List ℕ
@@ -97,18 +100,18 @@ field_takes : (bytes : List ℕ) (x : Field × List ℕ) → IsBytes bytes → f
 unfolding field_at
 field_takes bytes x fits e =
     let a = bind_ok (str_at bytes) with_name x e in
-    let b = bind_ok (number_at w32 a.0.1) (with_table a.0.0) x a.2 in
-    let c = bind_ok (number_at w16 b.0.1) (with_attribute a.0.0 b.0.0) x b.2 in
-    let d = bind_ok (number_at w32 c.0.1) (with_kind a.0.0 b.0.0 c.0.0) x c.2 in
-    let f = bind_ok (number_at w16 d.0.1) (with_size a.0.0 b.0.0 c.0.0 d.0.0) x d.2 in
-    let g = bind_ok (number_at w32 f.0.1) (with_modifier a.0.0 b.0.0 c.0.0 d.0.0 f.0.0) x f.2 in
+    let b = bind_ok (be_number_at w32 a.0.1) (with_table a.0.0) x a.2 in
+    let c = bind_ok (be_number_at w16 b.0.1) (with_attribute a.0.0 b.0.0) x b.2 in
+    let d = bind_ok (be_number_at w32 c.0.1) (with_kind a.0.0 b.0.0 c.0.0) x c.2 in
+    let f = bind_ok (be_number_at w16 d.0.1) (with_size a.0.0 b.0.0 c.0.0 d.0.0) x d.2 in
+    let g = bind_ok (be_number_at w32 f.0.1) (with_modifier a.0.0 b.0.0 c.0.0 d.0.0 f.0.0) x f.2 in
     let h = bind_ok (format_at g.0.1) (with_format a.0.0 b.0.0 c.0.0 d.0.0 f.0.0 g.0.0) x g.2 in
     let ta = str_takes bytes a.0 fits a.1 in
-    let tb = number_takes w32 (2 ^ 32) wide32 a.0.1 b.0 ta.0.rest_fits b.1 in
-    let tc = number_takes w16 (2 ^ 16) wide16 b.0.1 c.0 tb.0.rest_fits c.1 in
-    let td = number_takes w32 (2 ^ 32) wide32 c.0.1 d.0 tc.0.rest_fits d.1 in
-    let tf = number_takes w16 (2 ^ 16) wide16 d.0.1 f.0 td.0.rest_fits f.1 in
-    let tg = number_takes w32 (2 ^ 32) wide32 f.0.1 g.0 tf.0.rest_fits g.1 in
+    let tb = number_takes w32 (2 ^ 32) be_wide32 a.0.1 b.0 ta.0.rest_fits b.1 in
+    let tc = number_takes w16 (2 ^ 16) be_wide16 b.0.1 c.0 tb.0.rest_fits c.1 in
+    let td = number_takes w32 (2 ^ 32) be_wide32 c.0.1 d.0 tc.0.rest_fits d.1 in
+    let tf = number_takes w16 (2 ^ 16) be_wide16 d.0.1 f.0 td.0.rest_fits f.1 in
+    let tg = number_takes w32 (2 ^ 32) be_wide32 f.0.1 g.0 tf.0.rest_fits g.1 in
     let th = format_takes g.0.1 h.0 tg.0.rest_fits h.1 in
     let ph = to_be_bytes w16 h.0.0 in
     let pg = to_be_bytes w32 g.0.0 ++ ph in
@@ -144,11 +147,11 @@ field_again f rest is =
     let regrouped : field_bytes f ++ rest ≡ str f.name ++ r1 =
     regroup8 (str f.name) (to_be_bytes w32 f.table) (to_be_bytes w16 f.attribute) (to_be_bytes w32 f.kind) (to_be_bytes w16 size) (to_be_bytes w32 modifier) (to_be_bytes w16 f.format) rest in
     let e0 : str_at (field_bytes f ++ rest) ≡ Ok (f.name, r1) = ap str_at regrouped ∙ str_again f.name r1 is.name in
-    let e1 = number_again w32 (2 ^ 32) wide32 f.table r2 is.table in
-    let e2 = number_again w16 (2 ^ 16) wide16 f.attribute r3 is.attribute in
-    let e3 = number_again w32 (2 ^ 32) wide32 f.kind r4 is.kind in
-    let e4 = number_again w16 (2 ^ 16) wide16 size r5 (Fits-of_z is.size).fits in
-    let e5 = number_again w32 (2 ^ 32) wide32 modifier r6 (Fits-of_z is.modifier).fits in
+    let e1 = number_again w32 (2 ^ 32) be_wide32 f.table r2 is.table in
+    let e2 = number_again w16 (2 ^ 16) be_wide16 f.attribute r3 is.attribute in
+    let e3 = number_again w32 (2 ^ 32) be_wide32 f.kind r4 is.kind in
+    let e4 = number_again w16 (2 ^ 16) be_wide16 size r5 (Fits-of_z is.size).fits in
+    let e5 = number_again w32 (2 ^ 32) be_wide32 modifier r6 (Fits-of_z is.modifier).fits in
     let e6 = format_again f.format rest is.format in
     let s4 : cast_signed w16 size ≡ f.size = to_z-of_z w16 f.size is.size in
     let s5 : cast_signed w32 modifier ≡ f.modifier = to_z-of_z w32 f.modifier is.modifier in
@@ -200,8 +203,8 @@ sized_takes bytes n len x t e =
 cell_takes : (bytes : List ℕ) (x : Option (List ℕ) × List ℕ) → IsBytes bytes → cell_at bytes ≡ Ok x → Takes bytes (cell_bytes x.0) x.1 × IsCell x.0
 unfolding cell_at
 cell_takes bytes x fits e =
-    let a = bind_ok (number_at w32 bytes) (cell_behind (length bytes)) x e in
-    let t = number_takes w32 (2 ^ 32) wide32 bytes a.0 fits a.1 in
+    let a = bind_ok (be_number_at w32 bytes) (cell_behind (length bytes)) x e in
+    let t = number_takes w32 (2 ^ 32) be_wide32 bytes a.0 fits a.1 in
     elim (chosen (eqb a.0.0 4294967295) (ok_none a.0.1) (sized_cell (length bytes) a.0) (Ok x) a.2) [
       | inl h ↦ null_takes bytes a.0.1 a.0.0 x (eqb-true _ _ h.0) t.0 h.1
       | inr h ↦ sized_takes bytes a.0 (length bytes) x t.0 h.1
@@ -209,15 +212,15 @@ cell_takes bytes x fits e =
 
 cell_again : (cell : Option (List ℕ)) (rest : List ℕ) → IsCell cell → cell_at (cell_bytes cell ++ rest) ≡ Ok (cell, rest)
 unfolding cell_at
-cell_again None rest is = ap (λ (r : Result (ℕ × List ℕ) ℕ). r >>= cell_behind (length (cell_bytes None ++ rest))) (number_again w32 (2 ^ 32) wide32 4294967295 rest (omega arith))
+cell_again None rest is = ap (λ (r : Result (ℕ × List ℕ) ℕ). r >>= cell_behind (length (cell_bytes None ++ rest))) (number_again w32 (2 ^ 32) be_wide32 4294967295 rest (omega arith))
 cell_again (Some cell) rest is =
     let len = length (cell_bytes (Some cell) ++ rest) in
     let n = length cell in
     let regrouped : cell_bytes (Some cell) ++ rest ≡ to_be_bytes w32 n ++ (cell ++ rest) = append_assoc (to_be_bytes w32 n) cell rest in
-    let one : number_at w32 (cell_bytes (Some cell) ++ rest) ≡ Ok (n, cell ++ rest) = ap (number_at w32) regrouped ∙ number_again w32 (2 ^ 32) wide32 n (cell ++ rest) (omega arith) in
+    let one : be_number_at w32 (cell_bytes (Some cell) ++ rest) ≡ Ok (n, cell ++ rest) = ap (be_number_at w32) regrouped ∙ number_again w32 (2 ^ 32) be_wide32 n (cell ++ rest) (omega arith) in
     let other : eqb n 4294967295 ≡ false = ne_eqb _ _ (λ e. absurd (omega arith)) in
     let small : ltb n (2 ^ 31) ≡ true = lt-ltb _ _ is in
-    ap (λ (r : Result (ℕ × List ℕ) ℕ). r >>= cell_behind len) one ∙ rw (other, small, bytes_again cell rest) refl
+    ap (λ (r : Result (ℕ × List ℕ) ℕ). r >>= cell_behind len) one ∙ rw (other, small, bytes_again (length cell) cell rest refl) refl
 
 pub cell_item : IsItem cell_at cell_bytes IsCell
 cell_item = record { takes = cell_takes; again = cell_again }

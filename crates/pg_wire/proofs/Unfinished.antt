@@ -9,7 +9,8 @@ use Rattle.pg_wire.specs.declared.frame.FrameFault.TheVariants as faults
 use Rattle.pg_wire.specs.Frames.{is_type, counted, LengthIs, IsUnfinished}
 use Rattle.pg_wire.specs.Prefixes.{BeginsFrame}
 use Rattle.pg_wire.proofs.Heads.{message_bytes}
-use Rattle.pg_wire.proofs.Numbers.{IsBytes, IsBytes-take, wide32}
+use Rattle.byte_reader.proofs.Widths.{be_wide32}
+use Rattle.byte_reader.proofs.Taken.{IsBytes, IsBytes-take}
 
 -- a length and a body of some length begin with these bytes, and are longer
 record BeginsCounted (bytes : List ℕ) : Type 0 where
@@ -24,7 +25,7 @@ some_left xs some e = omega (arith, ap length e)
 
 -- four bytes and as many as they tell
 told_body : (front body : List ℕ) → length front ≡ 4 → IsBytes front → length body + 4 ≡ from_be_bytes w32 front → counted body ≡ front ++ body
-told_body front body four fits told = ap (λ (n : ℕ). to_be_bytes w32 n ++ body) told ∙ ap (λ (xs : List ℕ). xs ++ body) (wide32.back front four fits)
+told_body front body four fits told = ap (λ (n : ℕ). to_be_bytes w32 n ++ body) told ∙ ap (λ (xs : List ℕ). xs ++ body) (be_wide32.back front four fits)
 
 -- ---- less than a length
 
@@ -64,7 +65,7 @@ short_begins bytes fits short =
     let least : 4 ≤ n = told_least front (filled-last bytes short) in
     let body : List ℕ = replicate (n - 4) 0 in
     let told : length body + 4 ≡ n = omega (arith, length-replicate {A = ℕ} (n - 4) 0) in
-    let below = wide32.below front front-fits in record {
+    let below = be_wide32.below front front-fits in record {
       body = body;
       more = ends ++ body;
       fits = omega (arith, below, told);
@@ -88,7 +89,7 @@ long_begins least most bytes fits four long not_below not_above no_body =
     let told : LengthIs bytes n = (long, refl) in
     let low : least ≤ n = at_least n least (not_below n told) in
     let high : n ≤ most = at_least most n (not_above n told low) in
-    let below : n < 2 ^ 32 = wide32.below front front-fits in
+    let below : n < 2 ^ 32 = be_wide32.below front front-fits in
     let parts : front ++ behind ≡ bytes = take-append-drop 4 bytes in
     let behind-len : length behind ≡ length bytes - 4 = length-drop 4 bytes in
     elim (cases_lt (length bytes) n) [

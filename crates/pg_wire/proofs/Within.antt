@@ -1,53 +1,20 @@
 -- No more is left behind a field, or at a fault, than there was.
-use Rattle.std.proofs.Common.{◌≡◌, ℕ, zero, suc, ◌+◌, ◌≤◌, Bool, true, false, cond, eqb, ltb, ◌||◌, ◌^◌, List, [], ◌∷◌, length, take, drop, Option, Some, None, Result, Ok, Err, arith}
-use Rattle.std.specs.List.{position}
-use Rattle.std.specs.Int.{Width, w16, w32, byte_len, from_be_bytes}
-use Rattle.std.proofs.lemmas.List.{length-drop}
+use Rattle.std.proofs.Common.{◌≡◌, ℕ, zero, suc, ◌≤◌, Bool, cond, eqb, ltb, ◌||◌, ◌^◌, List, [], ◌∷◌, length, None, Result, Ok, Err, arith}
+use Rattle.std.specs.Int.{w16, w32}
 use Rattle.pg_wire.specs.declared.front.Target.TheVariants as targets
 use Rattle.pg_wire.specs.declared.front.Front.{Front}
 use Rattle.pg_wire.specs.declared.front.Front.TheVariants as fronts
 use Rattle.pg_wire.specs.declared.back.Back.{Back}
 use Rattle.pg_wire.specs.declared.back.Back.TheVariants as backs
-use Rattle.pg_wire.specs.Bodies.{◌>>=◌, number_at, bytes_at, around, str_at, pair_at, format_at, field_at, cell_at, error_at, state_at, items_at, counted_at, ended_at, listed_at, alone, mapped, auth_at, key_data_at, back_at, back_read, ◌followed_by◌, startup_at, parse_at, bind_at, target_at, targeted_at, execute_at, coded_at, front_at, front_read}
+use Rattle.byte_reader.specs.Fields.{◌>>=◌, be_number_at, bytes_at, str_at}
+use Rattle.byte_reader.proofs.Within.{Within, within_more, within_bind, within_cond, be_number_within, bytes_within, str_within, alone_within}
+use Rattle.pg_wire.specs.Bodies.{pair_at, format_at, field_at, cell_at, error_at, state_at, items_at, counted_at, ended_at, listed_at, mapped, auth_at, key_data_at, back_at, back_read, ◌followed_by◌, startup_at, parse_at, bind_at, target_at, targeted_at, execute_at, coded_at, front_at, front_read}
 use Rattle.pg_wire.proofs.RowLaws.{with_name, with_table, with_attribute, with_kind, with_size, with_modifier, with_format, some_cell, sized_cell, cell_behind}
 use Rattle.pg_wire.proofs.FrontMessages.{cancelled}
-
-abbrev pub Within : {A : Type 0} → ℕ → Result (A × List ℕ) ℕ → Type 0
-Within n (Ok x) = length x.1 ≤ n
-Within n (Err left) = left ≤ n
-
-within_more : {A : Type 0} (m n : ℕ) (r : Result (A × List ℕ) ℕ) → m ≤ n → Within m r → Within n r
-within_more m n (Ok x) le h = omega arith
-within_more m n (Err left) le h = omega arith
-
--- one step after another
-within_bind : {A B : Type 0} (n : ℕ) (r : Result (A × List ℕ) ℕ) (f : A × List ℕ → Result (B × List ℕ) ℕ) → Within n r → ((x : A × List ℕ) → Within (length x.1) (f x)) → Within n (r >>= f)
-within_bind n (Ok x) f h g = within_more (length x.1) n (f x) h (g x)
-within_bind n (Err left) f h g = h
-
--- a test between two steps
-within_cond : {A : Type 0} (n : ℕ) (b : Bool) (r s : Result (A × List ℕ) ℕ) → Within n r → Within n s → Within n (cond b r s)
-within_cond n true r s p q = p
-within_cond n false r s p q = q
 
 within_mapped : {A B : Type 0} (n : ℕ) (f : A → B) (r : Result (A × List ℕ) ℕ) → Within n r → Within n (mapped f r)
 within_mapped n f (Ok x) h = h
 within_mapped n f (Err left) h = h
-
-number_within : (w : Width) (bytes : List ℕ) → Within (length bytes) (number_at w bytes)
-number_within w bytes =
-    within_cond (length bytes) (ltb (length bytes) (byte_len w)) (Err (length bytes)) (Ok (from_be_bytes w (take (byte_len w) bytes), drop (byte_len w) bytes)) (omega arith) (omega (arith, length-drop (byte_len w) bytes))
-
-bytes_within : (n : ℕ) (bytes : List ℕ) → Within (length bytes) (bytes_at n bytes)
-bytes_within n bytes = within_cond (length bytes) (ltb (length bytes) n) (Err (length bytes)) (Ok (take n bytes, drop n bytes)) (omega arith) (omega (arith, length-drop n bytes))
-
-around_within : (bytes : List ℕ) (o : Option ℕ) → Within (length bytes) (around bytes o)
-around_within bytes None = omega arith
-around_within bytes (Some i) = omega (arith, length-drop (i + 1) bytes)
-
-str_within : (bytes : List ℕ) → Within (length bytes) (str_at bytes)
-unfolding str_at
-str_within bytes = around_within bytes (position (λ (b : ℕ). eqb b 0) bytes)
 
 pair_within : (bytes : List ℕ) → Within (length bytes) (pair_at bytes)
 unfolding pair_at
@@ -57,7 +24,7 @@ pair_within bytes =
 
 format_within : (bytes : List ℕ) → Within (length bytes) (format_at bytes)
 unfolding format_at
-format_within bytes = by (number_at w16 bytes) (number_within w16 bytes) where
+format_within bytes = by (be_number_at w16 bytes) (be_number_within w16 bytes) where
   by : (r : Result (ℕ × List ℕ) ℕ) → Within (length bytes) r → Within (length bytes) (r >>= λ n. cond (ltb n.0 2) (Ok n) (Err (length bytes)))
   by (Ok n) h = within_cond (length bytes) (ltb n.0 2) (Ok n) (Err (length bytes)) h (omega arith)
   by (Err left) h = h
@@ -66,16 +33,16 @@ field_within : (bytes : List ℕ) → Within (length bytes) (field_at bytes)
 unfolding field_at
 field_within bytes =
     within_bind (length bytes) (str_at bytes) with_name (str_within bytes) (λ a.
-    within_bind (length a.1) (number_at w32 a.1) (with_table a.0) (number_within w32 a.1) (λ b.
-    within_bind (length b.1) (number_at w16 b.1) (with_attribute a.0 b.0) (number_within w16 b.1) (λ c.
-    within_bind (length c.1) (number_at w32 c.1) (with_kind a.0 b.0 c.0) (number_within w32 c.1) (λ d.
-    within_bind (length d.1) (number_at w16 d.1) (with_size a.0 b.0 c.0 d.0) (number_within w16 d.1) (λ e.
-    within_bind (length e.1) (number_at w32 e.1) (with_modifier a.0 b.0 c.0 d.0 e.0) (number_within w32 e.1) (λ f.
+    within_bind (length a.1) (be_number_at w32 a.1) (with_table a.0) (be_number_within w32 a.1) (λ b.
+    within_bind (length b.1) (be_number_at w16 b.1) (with_attribute a.0 b.0) (be_number_within w16 b.1) (λ c.
+    within_bind (length c.1) (be_number_at w32 c.1) (with_kind a.0 b.0 c.0) (be_number_within w32 c.1) (λ d.
+    within_bind (length d.1) (be_number_at w16 d.1) (with_size a.0 b.0 c.0 d.0) (be_number_within w16 d.1) (λ e.
+    within_bind (length e.1) (be_number_at w32 e.1) (with_modifier a.0 b.0 c.0 d.0 e.0) (be_number_within w32 e.1) (λ f.
     within_bind (length f.1) (format_at f.1) (with_format a.0 b.0 c.0 d.0 e.0 f.0) (format_within f.1) (λ g. omega arith)))))))
 
 cell_within : (bytes : List ℕ) → Within (length bytes) (cell_at bytes)
 unfolding cell_at
-cell_within bytes = by (number_at w32 bytes) (number_within w32 bytes) where
+cell_within bytes = by (be_number_at w32 bytes) (be_number_within w32 bytes) where
   by : (r : Result (ℕ × List ℕ) ℕ) → Within (length bytes) r → Within (length bytes) (r >>= cell_behind (length bytes))
   by (Ok n) h =
       let cell = within_more (length n.1) (length bytes) (bytes_at n.0 n.1 >>= some_cell) h (within_bind (length n.1) (bytes_at n.0 n.1) some_cell (bytes_within n.0 n.1) (λ c. omega arith)) in
@@ -104,7 +71,7 @@ items_within item is (suc n) bytes =
 
 counted_within : {A : Type 0} (item : List ℕ → Result (A × List ℕ) ℕ) → ((bytes : List ℕ) → Within (length bytes) (item bytes)) → (bytes : List ℕ) → Within (length bytes) (counted_at item bytes)
 unfolding counted_at
-counted_within item is bytes = within_bind (length bytes) (number_at w16 bytes) (λ n. items_at item n.0 n.1) (number_within w16 bytes) (λ n. items_within item is n.0 n.1)
+counted_within item is bytes = within_bind (length bytes) (be_number_at w16 bytes) (λ n. items_at item n.0 n.1) (be_number_within w16 bytes) (λ n. items_within item is n.0 n.1)
 
 ended_within : {A : Type 0} (item : List ℕ → Result (A × List ℕ) ℕ) → ((bytes : List ℕ) → Within (length bytes) (item bytes)) → (n : ℕ) (bytes : List ℕ) → Within (length bytes) (ended_at item n bytes)
 unfolding ended_at
@@ -120,13 +87,13 @@ listed_within item is bytes = ended_within item is (length bytes) bytes
 
 auth_within : (bytes : List ℕ) → Within (length bytes) (auth_at bytes)
 unfolding auth_at
-auth_within bytes = within_bind (length bytes) (number_at w32 bytes) (λ code. Ok (backs.Auth code.0 code.1, [])) (number_within w32 bytes) (λ code. omega arith)
+auth_within bytes = within_bind (length bytes) (be_number_at w32 bytes) (λ code. Ok (backs.Auth code.0 code.1, [])) (be_number_within w32 bytes) (λ code. omega arith)
 
 key_data_within : (bytes : List ℕ) → Within (length bytes) (key_data_at bytes)
 unfolding key_data_at
 key_data_within bytes =
-    within_bind (length bytes) (number_at w32 bytes) (λ process. number_at w32 process.1 >>= λ key. Ok (backs.KeyData process.0 key.0, key.1)) (number_within w32 bytes) (λ process.
-    within_bind (length process.1) (number_at w32 process.1) (λ key. Ok (backs.KeyData process.0 key.0, key.1)) (number_within w32 process.1) (λ key. omega arith))
+    within_bind (length bytes) (be_number_at w32 bytes) (λ process. be_number_at w32 process.1 >>= λ key. Ok (backs.KeyData process.0 key.0, key.1)) (be_number_within w32 bytes) (λ process.
+    within_bind (length process.1) (be_number_at w32 process.1) (λ key. Ok (backs.KeyData process.0 key.0, key.1)) (be_number_within w32 process.1) (λ key. omega arith))
 
 -- a test, as a record, so that the rest of a chain is found
 record Bounded (A : Type 0) (n : ℕ) (r : Result (A × List ℕ) ℕ) : Type 0 where
@@ -152,22 +119,9 @@ back_bounded kind body =
     (chain (eqb kind 50) (Ok (backs.BindDone, body)) (omega arith)
     (chain (eqb kind 51) (Ok (backs.CloseDone, body)) (omega arith)
     (chain (eqb kind 110) (Ok (backs.NoData, body)) (omega arith)
-    (chain (eqb kind 116) (mapped backs.Params (counted_at (number_at w32) body)) (within_mapped n backs.Params (counted_at (number_at w32) body) (counted_within (number_at w32) (number_within w32) body))
+    (chain (eqb kind 116) (mapped backs.Params (counted_at (be_number_at w32) body)) (within_mapped n backs.Params (counted_at (be_number_at w32) body) (counted_within (be_number_at w32) (be_number_within w32) body))
     (chain (eqb kind 115) (Ok (backs.Suspended, body)) (omega arith)
     (record { bound = omega arith }))))))))))))))))
-
-abbrev failed : {B : Type 0} → ℕ → Result B ℕ
-failed left = Err left
-
-err_is : {B : Type 0} (m n : ℕ) → failed {B = B} m ≡ failed n → m ≡ n
-err_is m n e = cc
-
-alone_within : {M : Type 0} (n left : ℕ) (r : Result (M × List ℕ) ℕ) → Within n r → (r >>= alone) ≡ Err left → left ≤ n
-alone_within {M} n left (Ok x) h e = by (eqb (length x.1) 0) e where
-  by : (b : Bool) → cond b (Ok x.0) (Err (length x.1)) ≡ Err left → left ≤ n
-  by true e' = absurd cc
-  by false e' = omega (arith, err_is {B = M} (length x.1) left e')
-alone_within {M} n left (Err l) h e = omega (arith, err_is {B = M} l left e)
 
 pub back_left : (kind : ℕ) (body : List ℕ) (left : ℕ) → back_read kind body ≡ Err left → left ≤ length body
 unfolding back_read
@@ -181,13 +135,13 @@ both_within a b wa wb bytes =
 
 startup_within : (bytes : List ℕ) → Within (length bytes) (startup_at bytes)
 unfolding startup_at
-startup_within bytes = by (number_at w32 bytes) (number_within w32 bytes) where
+startup_within bytes = by (be_number_at w32 bytes) (be_number_within w32 bytes) where
   by : (r : Result (ℕ × List ℕ) ℕ) → Within (length bytes) r → Within (length bytes) (r >>= coded_at (length bytes))
   by (Ok code) h =
       let n = length bytes in
       let opened = within_more (length code.1) n (mapped fronts.Startup (listed_at pair_at code.1)) h (within_mapped (length code.1) fronts.Startup (listed_at pair_at code.1) (listed_within pair_at pair_within code.1)) in
-      let two = (number_at w32 followed_by number_at w32) code.1 in
-      let cancel = within_more (length code.1) n (mapped cancelled two) h (within_mapped (length code.1) cancelled two (both_within (number_at w32) (number_at w32) (number_within w32) (number_within w32) code.1)) in
+      let two = (be_number_at w32 followed_by be_number_at w32) code.1 in
+      let cancel = within_more (length code.1) n (mapped cancelled two) h (within_mapped (length code.1) cancelled two (both_within (be_number_at w32) (be_number_at w32) (be_number_within w32) (be_number_within w32) code.1)) in
       (chain (eqb code.0 196608) (mapped fronts.Startup (listed_at pair_at code.1)) opened
       (chain (eqb code.0 80877103) (Ok (fronts.SslRequest, code.1)) h
       (chain (eqb code.0 80877104) (Ok (fronts.GssRequest, code.1)) h
@@ -198,8 +152,8 @@ startup_within bytes = by (number_at w32 bytes) (number_within w32 bytes) where
 parse_within : (bytes : List ℕ) → Within (length bytes) (parse_at bytes)
 unfolding parse_at
 parse_within bytes =
-    within_mapped (length bytes) (λ x. fronts.Parse x.0.0 x.0.1 x.1) ((str_at followed_by str_at followed_by counted_at (number_at w32)) bytes)
-    (both_within (str_at followed_by str_at) (counted_at (number_at w32)) (both_within str_at str_at str_within str_within) (counted_within (number_at w32) (number_within w32)) bytes)
+    within_mapped (length bytes) (λ x. fronts.Parse x.0.0 x.0.1 x.1) ((str_at followed_by str_at followed_by counted_at (be_number_at w32)) bytes)
+    (both_within (str_at followed_by str_at) (counted_at (be_number_at w32)) (both_within str_at str_at str_within str_within) (counted_within (be_number_at w32) (be_number_within w32)) bytes)
 
 bind_within : (bytes : List ℕ) → Within (length bytes) (bind_at bytes)
 unfolding bind_at
@@ -226,7 +180,7 @@ targeted_within bytes = both_within target_at str_at target_within str_within by
 execute_within : (bytes : List ℕ) → Within (length bytes) (execute_at bytes)
 unfolding execute_at
 execute_within bytes =
-    within_mapped (length bytes) (λ x. fronts.Execute x.0 x.1) ((str_at followed_by number_at w32) bytes) (both_within str_at (number_at w32) str_within (number_within w32) bytes)
+    within_mapped (length bytes) (λ x. fronts.Execute x.0 x.1) ((str_at followed_by be_number_at w32) bytes) (both_within str_at (be_number_at w32) str_within (be_number_within w32) bytes)
 
 front_bounded : (kind : ℕ) (body : List ℕ) → Bounded Front (length body) (front_at kind body)
 front_bounded kind body =

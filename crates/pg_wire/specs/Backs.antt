@@ -8,7 +8,8 @@ use Rattle.pg_wire.specs.declared.back.ErrorField.{ErrorField}
 use Rattle.pg_wire.specs.declared.back.Back.{Back}
 use Rattle.pg_wire.specs.declared.back.Back.TheVariants as backs
 use Rattle.pg_wire.specs.Frames.{frame_bytes}
-use Rattle.pg_wire.specs.Parts.{IsText, str, IsPair, pair_bytes, IsWord, AreCounted, counted_items, listed_items}
+use Rattle.byte_reader.specs.Fields.{IsText, str}
+use Rattle.pg_wire.specs.Parts.{IsPair, pair_bytes, IsWord, AreCounted, counted_items, listed_items}
 pub use Rattle.pg_wire.specs.Parts.{IsCell, cell_bytes}
 
 pub record IsField (f : Field) : Type 0 where

@@ -1,8 +1,8 @@
--- Reading a body from left to right. What is read is a value and the bytes behind it. A fault is how many
--- bytes are left where the first field stands that can't be read.
-use Rattle.std.specs.Prelude.{ℕ, zero, suc, ◌||◌, ◌+◌, ◌^◌, ◌==◌, nat_lt, if◌then◌else◌, List, [], ◌∷◌, length, take, drop, Option, Some, None, Result, Ok, Err}
-use Rattle.std.specs.List.{position}
-use Rattle.std.specs.Int.{Width, w16, w32, byte_len, from_be_bytes, cast_signed}
+-- Reading a body from left to right. What is read is a value and the bytes behind it. A fault is how many bytes
+-- are left where the first field stands that can't be read.
+use Rattle.std.specs.Prelude.{ℕ, zero, suc, ◌||◌, ◌^◌, ◌==◌, nat_lt, if◌then◌else◌, List, [], ◌∷◌, length, Option, Some, None, Result, Ok, Err}
+use Rattle.std.specs.Int.{w16, w32, cast_signed}
+use Rattle.byte_reader.specs.Fields.{◌>>=◌, be_number_at, bytes_at, str_at, alone}
 use Rattle.pg_wire.specs.declared.front.Pair.{Pair}
 use Rattle.pg_wire.specs.declared.front.Target.{Target}
 use Rattle.pg_wire.specs.declared.front.Target.TheVariants as targets
@@ -12,11 +12,6 @@ use Rattle.pg_wire.specs.declared.back.Field.{Field}
 use Rattle.pg_wire.specs.declared.back.ErrorField.{ErrorField}
 use Rattle.pg_wire.specs.declared.back.Back.{Back}
 use Rattle.pg_wire.specs.declared.back.Back.TheVariants as backs
-
-infixl 10 ◌>>=◌
-abbrev pub ◌>>=◌ : {A B : Type 0} → Result A ℕ → (A → Result B ℕ) → Result B ℕ
-(Ok x) >>= f = f x
-(Err left) >>= f = Err left
 
 -- a field, and another one behind it
 infixl 20 ◌followed_by◌
@@ -28,21 +23,6 @@ abbrev pub ◌followed_by◌ : {A B : Type 0} → (List ℕ → Result (A × Lis
 
 -- ---- fields
 
-abbrev pub number_at : Width → List ℕ → Result (ℕ × List ℕ) ℕ
-number_at w bytes = if nat_lt (length bytes) (byte_len w) then Err (length bytes) else Ok (from_be_bytes w (take (byte_len w) bytes), drop (byte_len w) bytes)
-
-abbrev pub bytes_at : ℕ → List ℕ → Result (List ℕ × List ℕ) ℕ
-bytes_at n bytes = if nat_lt (length bytes) n then Err (length bytes) else Ok (take n bytes, drop n bytes)
-
--- the bytes before a place and those behind it
-abbrev pub around : List ℕ → Option ℕ → Result (List ℕ × List ℕ) ℕ
-around bytes None = Err (length bytes)
-around bytes (Some i) = Ok (take i bytes, drop (i + 1) bytes)
-
--- a text that ends before the first zero byte
-unfoldable pub str_at : List ℕ → Result (List ℕ × List ℕ) ℕ
-str_at bytes = around bytes (position (λ b. b == 0) bytes)
-
 unfoldable pub pair_at : List ℕ → Result (Pair × List ℕ) ℕ
 pair_at bytes = do
   name ← str_at bytes
@@ -51,17 +31,17 @@ pair_at bytes = do
 
 unfoldable pub format_at : List ℕ → Result (ℕ × List ℕ) ℕ
 format_at bytes = do
-  n ← number_at w16 bytes
+  n ← be_number_at w16 bytes
   if nat_lt n.0 2 then Ok n else Err (length bytes)
 
 unfoldable pub field_at : List ℕ → Result (Field × List ℕ) ℕ
 field_at bytes = do
   name ← str_at bytes
-  table ← number_at w32 name.1
-  attribute ← number_at w16 table.1
-  kind ← number_at w32 attribute.1
-  size ← number_at w16 kind.1
-  modifier ← number_at w32 size.1
+  table ← be_number_at w32 name.1
+  attribute ← be_number_at w16 table.1
+  kind ← be_number_at w32 attribute.1
+  size ← be_number_at w16 kind.1
+  modifier ← be_number_at w32 size.1
   format ← format_at modifier.1
   Ok (
     record {
@@ -79,7 +59,7 @@ field_at bytes = do
 -- the length -1 is NULL's, and no other negative one is a length
 unfoldable pub cell_at : List ℕ → Result (Option (List ℕ) × List ℕ) ℕ
 cell_at bytes = do
-  n ← number_at w32 bytes
+  n ← be_number_at w32 bytes
   if n.0 == 4294967295 then Ok (None, n.1) else if nat_lt n.0 (2 ^ 31) then (bytes_at n.0 n.1 >>= λ cell. Ok (Some cell.0, cell.1)) else Err (length bytes)
 
 unfoldable pub error_at : List ℕ → Result (ErrorField × List ℕ) ℕ
@@ -104,7 +84,7 @@ items_at item (suc n) bytes = do
 
 unfoldable pub counted_at : {A : Type 0} → (List ℕ → Result (A × List ℕ) ℕ) → List ℕ → Result (List A × List ℕ) ℕ
 counted_at item bytes = do
-  n ← number_at w16 bytes
+  n ← be_number_at w16 bytes
   items_at item n.0 n.1
 
 -- items up to a zero byte in an item's place. There are at most n.
@@ -123,23 +103,19 @@ listed_at item bytes = ended_at item (length bytes) bytes
 
 -- ---- messages
 
--- the value by itself, where nothing follows it
-abbrev pub alone : {A : Type 0} → A × List ℕ → Result A ℕ
-alone x = if length x.1 == 0 then Ok x.0 else Err (length x.1)
-
 abbrev pub mapped : {A B : Type 0} → (A → B) → Result (A × List ℕ) ℕ → Result (B × List ℕ) ℕ
 mapped f read = read >>= λ x. Ok (f x.0, x.1)
 
 -- a code, and all of the bytes behind it
 unfoldable pub auth_at : List ℕ → Result (Back × List ℕ) ℕ
 auth_at bytes = do
-  code ← number_at w32 bytes
+  code ← be_number_at w32 bytes
   Ok (backs.Auth code.0 code.1, [])
 
 unfoldable pub key_data_at : List ℕ → Result (Back × List ℕ) ℕ
 key_data_at bytes = do
-  process ← number_at w32 bytes
-  key ← number_at w32 process.1
+  process ← be_number_at w32 bytes
+  key ← be_number_at w32 process.1
   Ok (backs.KeyData process.0 key.0, key.1)
 
 -- a message of this type; another type is a fault at the body's first byte
@@ -159,7 +135,7 @@ back_at kind body =
     else if kind == 50 then Ok (backs.BindDone, body)
     else if kind == 51 then Ok (backs.CloseDone, body)
     else if kind == 110 then Ok (backs.NoData, body)
-    else if kind == 116 then mapped backs.Params (counted_at (number_at w32) body)
+    else if kind == 116 then mapped backs.Params (counted_at (be_number_at w32) body)
     else if kind == 115 then Ok (backs.Suspended, body)
     else Err (length body)
 
@@ -173,15 +149,15 @@ coded_at len code =
     if code.0 == 196608 then mapped fronts.Startup (listed_at pair_at code.1)
     else if code.0 == 80877103 then Ok (fronts.SslRequest, code.1)
     else if code.0 == 80877104 then Ok (fronts.GssRequest, code.1)
-    else if code.0 == 80877102 then mapped (λ x. fronts.Cancel x.0 x.1) ((number_at w32 followed_by number_at w32) code.1)
+    else if code.0 == 80877102 then mapped (λ x. fronts.Cancel x.0 x.1) ((be_number_at w32 followed_by be_number_at w32) code.1)
     else Err len
 
 unfoldable pub startup_at : List ℕ → Result (Front × List ℕ) ℕ
-startup_at bytes = number_at w32 bytes >>= coded_at (length bytes)
+startup_at bytes = be_number_at w32 bytes >>= coded_at (length bytes)
 
 -- a name, a text, and types
 unfoldable pub parse_at : List ℕ → Result (Front × List ℕ) ℕ
-parse_at bytes = mapped (λ x. fronts.Parse x.0.0 x.0.1 x.1) ((str_at followed_by str_at followed_by counted_at (number_at w32)) bytes)
+parse_at bytes = mapped (λ x. fronts.Parse x.0.0 x.0.1 x.1) ((str_at followed_by str_at followed_by counted_at (be_number_at w32)) bytes)
 
 -- a portal, a statement, formats, values, and formats of results
 unfoldable pub bind_at : List ℕ → Result (Front × List ℕ) ℕ
@@ -199,7 +175,7 @@ targeted_at bytes = (target_at followed_by str_at) bytes
 
 -- a portal, and the most rows
 unfoldable pub execute_at : List ℕ → Result (Front × List ℕ) ℕ
-execute_at bytes = mapped (λ x. fronts.Execute x.0 x.1) ((str_at followed_by number_at w32) bytes)
+execute_at bytes = mapped (λ x. fronts.Execute x.0 x.1) ((str_at followed_by be_number_at w32) bytes)
 
 -- a message of this type, 0 for a startup packet; another type is a fault at the body's first byte
 abbrev pub front_at : ℕ → List ℕ → Result (Front × List ℕ) ℕ

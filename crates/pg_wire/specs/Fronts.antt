@@ -8,7 +8,8 @@ use Rattle.pg_wire.specs.declared.front.Target.TheVariants as targets
 use Rattle.pg_wire.specs.declared.front.Front.{Front}
 use Rattle.pg_wire.specs.declared.front.Front.TheVariants as fronts
 use Rattle.pg_wire.specs.Frames.{frame_bytes}
-pub use Rattle.pg_wire.specs.Parts.{IsText, str, IsPair, pair_bytes}
+pub use Rattle.byte_reader.specs.Fields.{IsText, str}
+pub use Rattle.pg_wire.specs.Parts.{IsPair, pair_bytes}
 use Rattle.pg_wire.specs.Parts.{IsWord, IsFormat, IsCell, cell_bytes, AreCounted, counted_items}
 
 -- a startup parameter has a name

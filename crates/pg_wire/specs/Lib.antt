@@ -6,5 +6,4 @@ pub mod Backs
 pub mod Reading
 pub mod Heads
 pub mod Bodies
-pub mod Readers
 pub mod Prefixes

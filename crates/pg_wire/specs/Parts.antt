@@ -1,16 +1,9 @@
 -- The parts of messages, of either side, and their one spelling.
-use Rattle.std.specs.Prelude.{ℕ, ◌^◌, ◌<◌, List, [], ◌∷◌, ◌++◌, length, Contains, Option, Some, None}
+use Rattle.std.specs.Prelude.{ℕ, ◌^◌, ◌<◌, List, [], ◌∷◌, ◌++◌, length, Option, Some, None}
 use Rattle.std.specs.List.{flat_map, AllByRecursion}
 use Rattle.std.specs.Int.{w16, w32, to_be_bytes}
+pub use Rattle.byte_reader.specs.Fields.{IsText, str}
 use Rattle.pg_wire.specs.declared.front.Pair.{Pair}
-
--- a text without a zero byte
-abbrev pub IsText : List ℕ → Type 0
-IsText text = Contains text 0 → ⊥
-
--- a text and the zero byte that ends it
-abbrev pub str : List ℕ → List ℕ
-str text = text ++ 0 ∷ []
 
 abbrev pub IsPair : Pair → Type 0
 IsPair p = IsText p.name × IsText p.value

@@ -1,11 +1,11 @@
 ghost use Rattle.std.specs.Prelude.{◌≡◌, ℕ, List};
 ghost use Rattle.pg_wire.specs.Bodies.{field_at, items_at, counted_at};
-ghost use Rattle.pg_wire.specs.Readers.{Gives};
+ghost use Rattle.byte_reader.specs.Readers.{Gives};
 
 use crate::back::Field;
 use crate::counted::format_of;
-use crate::fields::{Unread, str_of, u16_of, u32_of};
 use acra_base::Sequence;
+use byte_reader::{Unread, be_u16_of, be_u32_of, text_of};
 use std::alloc::Global;
 
 /// Reads the description of a column.
@@ -13,12 +13,12 @@ use std::alloc::Global;
 fn field_of(alloc: Global, bytes: &[u8]) -> Result<(Field, &[u8]), Unread>
     ensures { Gives (λ x. (x.0, x.1.now)) result (field_at bytes.now) }
 {
-    let (name, rest) = str_of(alloc, bytes)?;
-    let (table, rest) = u32_of(rest)?;
-    let (attribute, rest) = u16_of(rest)?;
-    let (kind, rest) = u32_of(rest)?;
-    let (size, rest) = u16_of(rest)?;
-    let (modifier, rest) = u32_of(rest)?;
+    let (name, rest) = text_of(alloc, bytes)?;
+    let (table, rest) = be_u32_of(rest)?;
+    let (attribute, rest) = be_u16_of(rest)?;
+    let (kind, rest) = be_u32_of(rest)?;
+    let (size, rest) = be_u16_of(rest)?;
+    let (modifier, rest) = be_u32_of(rest)?;
     let (format, rest) = format_of(rest)?;
     let field = Field {
         name,
@@ -51,6 +51,6 @@ fn fields_of(alloc: Global, count: u16, bytes: &[u8]) -> Result<(Sequence<Field>
 pub fn row_of(alloc: Global, bytes: &[u8]) -> Result<(Sequence<Field>, &[u8]), Unread>
     ensures { Gives (λ x. (x.0, x.1.now)) result (counted_at field_at bytes.now) }
 {
-    let (count, rest) = u16_of(bytes)?;
+    let (count, rest) = be_u16_of(bytes)?;
     fields_of(alloc, count, rest)
 }

@@ -1,11 +1,12 @@
 ghost use Rattle.std.specs.Prelude.{◌≡◌, ℕ, List, Option};
 ghost use Rattle.std.specs.Int.{w32};
-ghost use Rattle.pg_wire.specs.Bodies.{number_at, format_at, cell_at, items_at, counted_at};
-ghost use Rattle.pg_wire.specs.Readers.{Gives};
+ghost use Rattle.byte_reader.specs.Fields.{be_number_at};
+ghost use Rattle.pg_wire.specs.Bodies.{format_at, cell_at, items_at, counted_at};
+ghost use Rattle.byte_reader.specs.Readers.{Gives};
 
 use crate::back::NULL_LENGTH;
-use crate::fields::{Unread, bytes_of, u16_of, u32_of};
 use acra_base::{Bytes, Sequence};
+use byte_reader::{Unread, be_u16_of, be_u32_of, bytes_of};
 use std::alloc::Global;
 
 /// What no length reaches, as it isn't negative.
@@ -16,7 +17,7 @@ const LENGTH_END: u32 = 2_147_483_648;
 pub fn format_of(bytes: &[u8]) -> Result<(u16, &[u8]), Unread>
     ensures { Gives (λ x. (x.0, x.1.now)) result (format_at bytes.now) }
 {
-    let (format, rest) = u16_of(bytes)?;
+    let (format, rest) = be_u16_of(bytes)?;
     if format >= 2 {
         return Err(Unread::At { left: bytes.len() });
     }
@@ -42,18 +43,18 @@ fn formats_of(alloc: Global, count: u16, bytes: &[u8]) -> Result<(Sequence<u16>,
 pub fn counted_formats_of(alloc: Global, bytes: &[u8]) -> Result<(Sequence<u16>, &[u8]), Unread>
     ensures { Gives (λ x. (x.0, x.1.now)) result (counted_at format_at bytes.now) }
 {
-    let (count, rest) = u16_of(bytes)?;
+    let (count, rest) = be_u16_of(bytes)?;
     formats_of(alloc, count, rest)
 }
 
 /// Reads this many OIDs of types.
 fn oids_of(alloc: Global, count: u16, bytes: &[u8]) -> Result<(Sequence<u32>, &[u8]), Unread>
-    ensures { Gives (λ x. (x.0, x.1.now)) result (items_at (number_at w32) count bytes.now) }
+    ensures { Gives (λ x. (x.0, x.1.now)) result (items_at (be_number_at w32) count bytes.now) }
 {
     let mut oids = Sequence::new(alloc);
     let mut rest = bytes;
     'oids: for _ in 0..count {
-        let (oid, after) = u32_of(rest)?;
+        let (oid, after) = be_u32_of(rest)?;
         oids.push(oid)?;
         rest = after;
     }
@@ -63,9 +64,9 @@ fn oids_of(alloc: Global, count: u16, bytes: &[u8]) -> Result<(Sequence<u32>, &[
 /// Reads OIDs of types with their count before them.
 #[tactic(auto, unfolding(crate::specs::Bodies::counted_at))]
 pub fn counted_oids_of(alloc: Global, bytes: &[u8]) -> Result<(Sequence<u32>, &[u8]), Unread>
-    ensures { Gives (λ x. (x.0, x.1.now)) result (counted_at (number_at w32) bytes.now) }
+    ensures { Gives (λ x. (x.0, x.1.now)) result (counted_at (be_number_at w32) bytes.now) }
 {
-    let (count, rest) = u16_of(bytes)?;
+    let (count, rest) = be_u16_of(bytes)?;
     oids_of(alloc, count, rest)
 }
 
@@ -74,7 +75,7 @@ pub fn counted_oids_of(alloc: Global, bytes: &[u8]) -> Result<(Sequence<u32>, &[
 fn cell_of(alloc: Global, bytes: &[u8]) -> Result<(Option<Bytes>, &[u8]), Unread>
     ensures { Gives (λ x. (x.0, x.1.now)) result (cell_at bytes.now) }
 {
-    let (size, rest) = u32_of(bytes)?;
+    let (size, rest) = be_u32_of(bytes)?;
     if size == NULL_LENGTH {
         return Ok((None, rest));
     }
@@ -111,6 +112,6 @@ pub fn counted_cells_of(
 ) -> Result<(Sequence<Option<Bytes>>, &[u8]), Unread>
     ensures { Gives (λ x. (x.0, x.1.now)) result (counted_at cell_at bytes.now) }
 {
-    let (count, rest) = u16_of(bytes)?;
+    let (count, rest) = be_u16_of(bytes)?;
     cells_of(alloc, count, rest)
 }

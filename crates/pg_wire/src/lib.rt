@@ -5,7 +5,6 @@
 mod back;
 mod columns;
 mod counted;
-mod fields;
 mod frame;
 mod framer;
 mod front;
@@ -32,6 +31,3 @@ pub use laws::{
 pub use reading_back::read_back;
 pub use reading_front::read_front;
 pub use write::{write_back, write_front};
-
-#[cfg(test)]
-mod tests;

@@ -1,11 +1,11 @@
 ghost use Rattle.std.specs.Prelude.{◌≡◌, ℕ, List};
 ghost use Rattle.pg_wire.specs.Bodies.{pair_at, error_at, listed_at};
-ghost use Rattle.pg_wire.specs.Readers.{Gives};
+ghost use Rattle.byte_reader.specs.Readers.{Gives};
 
 use crate::back::ErrorField;
-use crate::fields::{Unread, pair_of, str_of};
 use crate::front::Pair;
 use acra_base::Sequence;
+use byte_reader::{Unread, text_of};
 use std::alloc::Global;
 
 /// Reads a field of an error or of a notice.
@@ -16,7 +16,7 @@ fn error_field_of(alloc: Global, bytes: &[u8]) -> Result<(ErrorField, &[u8]), Un
     match bytes {
         [] => Err(Unread::At { left: 0 }),
         [code, rest @ ..] => {
-            let (text, rest) = str_of(alloc, rest)?;
+            let (text, rest) = text_of(alloc, rest)?;
             Ok((ErrorField { code: *code, text }, rest))
         }
     }
@@ -39,6 +39,16 @@ pub fn error_fields_of(alloc: Global, bytes: &[u8]) -> Result<(Sequence<ErrorFie
         fields.push(field)?;
         rest = after;
     }
+}
+
+/// Reads a name and its value.
+#[tactic(auto, unfolding(crate::specs::Bodies::pair_at))]
+pub fn pair_of(alloc: Global, bytes: &[u8]) -> Result<(Pair, &[u8]), Unread>
+    ensures { Gives (λ x. (x.0, x.1.now)) result (pair_at bytes.now) }
+{
+    let (name, rest) = text_of(alloc, bytes)?;
+    let (value, rest) = text_of(alloc, rest)?;
+    Ok((Pair { name, value }, rest))
 }
 
 /// Reads names with their values and the zero byte that ends them.

@@ -1,7 +1,8 @@
 ghost use Rattle.std.specs.Prelude.{◌≡◌, ◌++◌, ◌∷◌, [], ◌<◌, ◌^◌, length, OnOk, List, Option};
 ghost use Rattle.std.specs.Int.{w16, w32, to_be_bytes, cast_unsigned};
 ghost use Rattle.std.specs.List.{flat_map, AllByRecursion};
-ghost use Rattle.pg_wire.specs.Parts.{str, pair_bytes, IsCell, cell_bytes, counted_items, listed_items, AreCounted};
+ghost use Rattle.byte_reader.specs.Fields.{str};
+ghost use Rattle.pg_wire.specs.Parts.{pair_bytes, IsCell, cell_bytes, counted_items, listed_items, AreCounted};
 ghost use Rattle.pg_wire.specs.Backs.{field_bytes, error_bytes};
 
 use crate::back::{ErrorField, Field, NULL_LENGTH};

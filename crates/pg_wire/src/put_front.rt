@@ -1,5 +1,5 @@
 ghost use Rattle.std.specs.Prelude.{◌≡◌, ◌++◌, ◌∷◌, List, Option, OnOk};
-ghost use Rattle.pg_wire.specs.Parts.{str};
+ghost use Rattle.byte_reader.specs.Fields.{str};
 ghost use Rattle.pg_wire.specs.Fronts.{IsParse, IsBind, IsFront, target_byte, front_body};
 ghost use Rattle.pg_wire.specs.declared.front.Front.TheVariants as fronts;
 

@@ -1,16 +1,16 @@
 ghost use Rattle.std.specs.Prelude.{◌≡◌, ℕ, List, IfOk};
 ghost use Rattle.pg_wire.specs.Bodies.{state_at, auth_at, key_data_at, back_at, back_read};
-ghost use Rattle.pg_wire.specs.Readers.{Gives};
+ghost use Rattle.byte_reader.specs.Readers.{Gives};
 ghost use Rattle.pg_wire.specs.Reading.{SpellsBack, ReadsAs, ReadsExactly};
 ghost use Rattle.pg_wire.specs.declared.back.Back.{Back};
 
 use crate::back::Back;
 use crate::columns::row_of;
 use crate::counted::{counted_cells_of, counted_oids_of};
-use crate::fields::{Unread, pair_of, str_of, u32_of};
 use crate::frame::{Frame, ReadBody};
-use crate::lists::error_fields_of;
+use crate::lists::{error_fields_of, pair_of};
 use acra_base::Bytes;
+use byte_reader::{Unread, be_u32_of, text_of};
 use std::alloc::Global;
 
 /// Reads a state of ReadyForQuery.
@@ -35,7 +35,7 @@ fn state_of(bytes: &[u8]) -> Result<(u8, &[u8]), Unread>
 fn auth_of(alloc: Global, bytes: &[u8]) -> Result<(Back, &[u8]), Unread>
     ensures { Gives (λ x. (x.0, x.1.now)) result (auth_at bytes.now) }
 {
-    let (code, rest) = u32_of(bytes)?;
+    let (code, rest) = be_u32_of(bytes)?;
     let rest = Bytes::copied(alloc, rest)?;
     Ok((Back::Auth { code, rest }, &[]))
 }
@@ -45,8 +45,8 @@ fn auth_of(alloc: Global, bytes: &[u8]) -> Result<(Back, &[u8]), Unread>
 fn key_data_of(bytes: &[u8]) -> Result<(Back, &[u8]), Unread>
     ensures { Gives (λ x. (x.0, x.1.now)) result (key_data_at bytes.now) }
 {
-    let (process, rest) = u32_of(bytes)?;
-    let (key, rest) = u32_of(rest)?;
+    let (process, rest) = be_u32_of(bytes)?;
+    let (key, rest) = be_u32_of(rest)?;
     Ok((Back::KeyData { process, key }, rest))
 }
 
@@ -74,7 +74,7 @@ fn back_of(alloc: Global, kind: u8, body: &[u8]) -> Result<(Back, &[u8]), Unread
             Ok((Back::Cells(cells), rest))
         }
         b'C' => {
-            let (tag, rest) = str_of(alloc, body)?;
+            let (tag, rest) = text_of(alloc, body)?;
             Ok((Back::Complete(tag), rest))
         }
         b'E' => {

@@ -1,15 +1,15 @@
 ghost use Rattle.std.specs.Prelude.{◌≡◌, ℕ, List, IfOk};
 ghost use Rattle.pg_wire.specs.Bodies.{front_at, front_read};
-ghost use Rattle.pg_wire.specs.Readers.{Gives};
+ghost use Rattle.byte_reader.specs.Readers.{Gives};
 ghost use Rattle.pg_wire.specs.Reading.{SpellsFront, ReadsAs, ReadsExactly};
 ghost use Rattle.pg_wire.specs.declared.front.Front.{Front};
 
-use crate::fields::{Unread, str_of};
 use crate::frame::{Frame, ReadBody};
 use crate::front::Front;
 use crate::startup::startup_of;
 use crate::statements::{bind_of, close_of, describe_of, execute_of, parse_of};
 use acra_base::Bytes;
+use byte_reader::{Unread, text_of};
 use std::alloc::Global;
 
 /// Reads a client's message of this type at the front.
@@ -19,7 +19,7 @@ fn front_of(alloc: Global, kind: u8, body: &[u8]) -> Result<(Front, &[u8]), Unre
     match kind {
         0 => startup_of(alloc, body),
         b'Q' => {
-            let (text, rest) = str_of(alloc, body)?;
+            let (text, rest) = text_of(alloc, body)?;
             Ok((Front::Query(text), rest))
         }
         b'P' => parse_of(alloc, body),

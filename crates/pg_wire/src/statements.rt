@@ -1,11 +1,11 @@
 ghost use Rattle.std.specs.Prelude.{◌≡◌, ℕ, List};
 ghost use Rattle.pg_wire.specs.Bodies.{mapped, parse_at, bind_at, target_at, targeted_at, execute_at};
-ghost use Rattle.pg_wire.specs.Readers.{Gives};
+ghost use Rattle.byte_reader.specs.Readers.{Gives};
 ghost use Rattle.pg_wire.specs.declared.front.Front.TheVariants as fronts;
 
 use crate::counted::{counted_cells_of, counted_formats_of, counted_oids_of};
-use crate::fields::{Unread, str_of, u32_of};
 use crate::front::{Front, Target};
+use byte_reader::{Unread, be_u32_of, text_of};
 use std::alloc::Global;
 
 /// Reads a Parse.
@@ -13,8 +13,8 @@ use std::alloc::Global;
 pub fn parse_of(alloc: Global, bytes: &[u8]) -> Result<(Front, &[u8]), Unread>
     ensures { Gives (λ x. (x.0, x.1.now)) result (parse_at bytes.now) }
 {
-    let (name, rest) = str_of(alloc, bytes)?;
-    let (text, rest) = str_of(alloc, rest)?;
+    let (name, rest) = text_of(alloc, bytes)?;
+    let (text, rest) = text_of(alloc, rest)?;
     let (types, rest) = counted_oids_of(alloc, rest)?;
     Ok((Front::Parse { name, text, types }, rest))
 }
@@ -24,8 +24,8 @@ pub fn parse_of(alloc: Global, bytes: &[u8]) -> Result<(Front, &[u8]), Unread>
 pub fn bind_of(alloc: Global, bytes: &[u8]) -> Result<(Front, &[u8]), Unread>
     ensures { Gives (λ x. (x.0, x.1.now)) result (bind_at bytes.now) }
 {
-    let (portal, rest) = str_of(alloc, bytes)?;
-    let (name, rest) = str_of(alloc, rest)?;
+    let (portal, rest) = text_of(alloc, bytes)?;
+    let (name, rest) = text_of(alloc, rest)?;
     let (formats, rest) = counted_formats_of(alloc, rest)?;
     let (values, rest) = counted_cells_of(alloc, rest)?;
     let (results, rest) = counted_formats_of(alloc, rest)?;
@@ -58,7 +58,7 @@ pub fn describe_of(alloc: Global, bytes: &[u8]) -> Result<(Front, &[u8]), Unread
     ensures { Gives (λ x. (x.0, x.1.now)) result (mapped (λ x. fronts.Describe x.0 x.1) (targeted_at bytes.now)) }
 {
     let (target, rest) = target_of(bytes)?;
-    let (name, rest) = str_of(alloc, rest)?;
+    let (name, rest) = text_of(alloc, rest)?;
     Ok((Front::Describe { target, name }, rest))
 }
 
@@ -68,7 +68,7 @@ pub fn close_of(alloc: Global, bytes: &[u8]) -> Result<(Front, &[u8]), Unread>
     ensures { Gives (λ x. (x.0, x.1.now)) result (mapped (λ x. fronts.Close x.0 x.1) (targeted_at bytes.now)) }
 {
     let (target, rest) = target_of(bytes)?;
-    let (name, rest) = str_of(alloc, rest)?;
+    let (name, rest) = text_of(alloc, rest)?;
     Ok((Front::Close { target, name }, rest))
 }
 
@@ -77,7 +77,7 @@ pub fn close_of(alloc: Global, bytes: &[u8]) -> Result<(Front, &[u8]), Unread>
 pub fn execute_of(alloc: Global, bytes: &[u8]) -> Result<(Front, &[u8]), Unread>
     ensures { Gives (λ x. (x.0, x.1.now)) result (execute_at bytes.now) }
 {
-    let (portal, rest) = str_of(alloc, bytes)?;
-    let (limit, rest) = u32_of(rest)?;
+    let (portal, rest) = text_of(alloc, bytes)?;
+    let (limit, rest) = be_u32_of(rest)?;
     Ok((Front::Execute { portal, limit }, rest))
 }

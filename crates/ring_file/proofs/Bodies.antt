@@ -8,28 +8,32 @@ use Rattle.keystore.specs.declared.tickets.Ticket.{Ticket}
 use Rattle.keystore.specs.Rings.{ClientKeys, RingState, restored_ring}
 use Rattle.keystore.specs.Kept.{IsKeyed, IsKept}
 use Rattle.ring_file.specs.Form.{client_bytes, ring_body, IsFileClient, IsFileRing}
-use Rattle.ring_file.specs.Reading.{◌>>=◌, number_at, bytes_at, next_id_at, client_count_at, clients_at, alone, ring_behind, ring_at, ring_read}
-use Rattle.ring_file.proofs.Numbers.{bind_ok, ok_is, checked_ok, checked_again, IsBytes, Takes, Takes-then, wide16, wide64, number_takes, number_again, bytes_take, bytes_again}
+use Rattle.byte_reader.proofs.Steps.{bind_ok, ok_is}
+use Rattle.byte_reader.proofs.Taken.{IsBytes, Takes, Takes-then, bytes_take, bytes_again}
+use Rattle.byte_reader.proofs.Widths.{le_wide16, le_wide64, number_takes, number_again}
+use Rattle.byte_reader.specs.Fields.{◌>>=◌, le_number_at, bytes_at, alone}
+use Rattle.ring_file.specs.Reading.{next_id_at, client_count_at, clients_at, ring_behind, ring_at, ring_read}
+use Rattle.ring_file.proofs.Judged.{checked_ok, checked_again}
 use Rattle.ring_file.proofs.Restored.{AreClients, clients_take, clients_again}
 
 next_takes : (bytes : List ℕ) (x : ℕ × List ℕ) → IsBytes bytes → next_id_at bytes ≡ Ok x → Takes bytes (to_le_bytes w64 x.0) x.1 × ((1 ≤ x.0) × (x.0 < 2 ^ 64))
 next_takes bytes x fits e =
-    let g = checked_ok (number_at w64 bytes) (λ n. leb 1 n.0) (length bytes) x e in
-    let t = number_takes w64 (2 ^ 64) wide64 bytes x fits g.0 in
+    let g = checked_ok (le_number_at w64 bytes) (λ n. leb 1 n.0) (length bytes) x e in
+    let t = number_takes w64 (2 ^ 64) le_wide64 bytes x fits g.0 in
     (t.0, (leb-true _ _ g.1, t.1))
 
 next_again : (n : ℕ) (rest : List ℕ) → 1 ≤ n → n < 2 ^ 64 → next_id_at (to_le_bytes w64 n ++ rest) ≡ Ok (n, rest)
 next_again n rest least fits =
-    checked_again (number_at w64 (to_le_bytes w64 n ++ rest)) (λ m. leb 1 m.0) (length (to_le_bytes w64 n ++ rest)) (n, rest) (number_again w64 (2 ^ 64) wide64 n rest fits) (le-leb _ _ least)
+    checked_again (le_number_at w64 (to_le_bytes w64 n ++ rest)) (λ m. leb 1 m.0) (length (to_le_bytes w64 n ++ rest)) (n, rest) (number_again w64 (2 ^ 64) le_wide64 n rest fits) (le-leb _ _ least)
 
 many_takes : (bytes : List ℕ) (x : ℕ × List ℕ) → IsBytes bytes → client_count_at bytes ≡ Ok x → Takes bytes (to_le_bytes w16 x.0) x.1 × (x.0 ≤ 256)
 many_takes bytes x fits e =
-    let g = checked_ok (number_at w16 bytes) (λ n. leb n.0 256) (length bytes) x e in
-    ((number_takes w16 (2 ^ 16) wide16 bytes x fits g.0).0, leb-true _ _ g.1)
+    let g = checked_ok (le_number_at w16 bytes) (λ n. leb n.0 256) (length bytes) x e in
+    ((number_takes w16 (2 ^ 16) le_wide16 bytes x fits g.0).0, leb-true _ _ g.1)
 
 many_again : (n : ℕ) (rest : List ℕ) → n ≤ 256 → client_count_at (to_le_bytes w16 n ++ rest) ≡ Ok (n, rest)
 many_again n rest most =
-    checked_again (number_at w16 (to_le_bytes w16 n ++ rest)) (λ m. leb m.0 256) (length (to_le_bytes w16 n ++ rest)) (n, rest) (number_again w16 (2 ^ 16) wide16 n rest (omega (arith, most))) (le-leb _ _ most)
+    checked_again (le_number_at w16 (to_le_bytes w16 n ++ rest)) (λ m. leb m.0 256) (length (to_le_bytes w16 n ++ rest)) (n, rest) (number_again w16 (2 ^ 16) le_wide16 n rest (omega (arith, most))) (le-leb _ _ most)
 
 abbrev counted_bytes : ℕ → List ClientKeys → List ℕ
 counted_bytes next clients = to_le_bytes w64 next ++ (to_le_bytes w16 (length clients) ++ flat_map client_bytes clients)

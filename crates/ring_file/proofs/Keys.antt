@@ -12,8 +12,12 @@ use Rattle.keystore.specs.Rings.{ClientKeys, number_of}
 use Rattle.keystore.specs.Kept.{IsOlder, has_id, ticket_of}
 use Rattle.keystore.proofs.Items.{all_push, ascends_push, all_weaker}
 use Rattle.ring_file.specs.Form.{key_bytes, old_bytes, IsFileKey}
-use Rattle.ring_file.specs.Reading.{◌>>=◌, byte_at, number_at, bytes_at, old_phase_in, old_phase_at, last_of, id_or_zero, can_be_id, id_at, old_key_at, old_keys_at}
-use Rattle.ring_file.proofs.Numbers.{bind_ok, ok_is, checked_ok, checked_again, IsBytes, Takes, Takes-then, byte_takes, wide64, number_takes, number_again, bytes_take, bytes_again}
+use Rattle.byte_reader.proofs.Steps.{bind_ok, ok_is}
+use Rattle.byte_reader.proofs.Taken.{IsBytes, Takes, Takes-then, byte_takes, bytes_take, bytes_again}
+use Rattle.byte_reader.proofs.Widths.{le_wide64, number_takes, number_again}
+use Rattle.byte_reader.specs.Fields.{◌>>=◌, byte_at, le_number_at, bytes_at}
+use Rattle.ring_file.specs.Reading.{old_phase_in, old_phase_at, last_of, id_or_zero, can_be_id, id_at, old_key_at, old_keys_at}
+use Rattle.ring_file.proofs.Judged.{checked_ok, checked_again}
 use Rattle.ring_file.proofs.Rules.{ascends_front, last_below, below_last, id_can, can_id}
 
 -- ---- ids and phases
@@ -22,13 +26,13 @@ pub id_takes : (next : ℕ) (before : List ClientKeys) (past : List OldKey) (byt
     → Takes bytes (to_le_bytes w64 x.0) x.1 × (can_be_id next before past x.0 ≡ true)
 unfolding id_at
 id_takes next before past bytes x fits e =
-    let g = checked_ok (number_at w64 bytes) (λ n. can_be_id next before past n.0) (length bytes) x e in
-    ((number_takes w64 (2 ^ 64) wide64 bytes x fits g.0).0, g.1)
+    let g = checked_ok (le_number_at w64 bytes) (λ n. can_be_id next before past n.0) (length bytes) x e in
+    ((number_takes w64 (2 ^ 64) le_wide64 bytes x fits g.0).0, g.1)
 
 pub id_again : (next : ℕ) (before : List ClientKeys) (past : List OldKey) (id : ℕ) (rest : List ℕ) → id < 2 ^ 64 → can_be_id next before past id ≡ true → id_at next before past (to_le_bytes w64 id ++ rest) ≡ Ok (id, rest)
 unfolding id_at
 id_again next before past id rest fits h =
-    checked_again (number_at w64 (to_le_bytes w64 id ++ rest)) (λ n. can_be_id next before past n.0) (length (to_le_bytes w64 id ++ rest)) (id, rest) (number_again w64 (2 ^ 64) wide64 id rest fits) h
+    checked_again (le_number_at w64 (to_le_bytes w64 id ++ rest)) (λ n. can_be_id next before past n.0) (length (to_le_bytes w64 id ++ rest)) (id, rest) (number_again w64 (2 ^ 64) le_wide64 id rest fits) h
 
 record IsPhaseOf (n : ℕ) (rest : List ℕ) (x : OldPhase × List ℕ) : Type 0 where
   number : number_of x.0 ≡ n

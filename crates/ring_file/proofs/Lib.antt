@@ -1,10 +1,11 @@
 pub mod Lasts
 pub mod Names
 pub mod Loops
-pub mod Numbers
+pub mod Judged
 pub mod Rules
 pub mod Keys
 pub mod Restored
 pub mod Sorted
 pub mod Bodies
 pub mod Sealed
+pub mod Long

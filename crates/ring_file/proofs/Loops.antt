@@ -2,10 +2,11 @@
 use Rattle.std.proofs.Common.{◌≡◌, ℕ, zero, suc, ◌-◌, ◌+◌, ◌<◌, ◌≤◌, List, [], ◌∷◌, ◌++◌, Result, Ok, Err, refl, sym, ap, ◌∙◌, arith}
 use Rattle.keystore.specs.declared.phase.OldKey.{OldKey}
 use Rattle.keystore.specs.Rings.{ClientKeys}
-use Rattle.ring_file.specs.declared.fields.Unread.{Unread}
-use Rattle.ring_file.specs.declared.fields.Unread.TheVariants as unread
-use Rattle.ring_file.specs.Files.{Fails}
-use Rattle.ring_file.specs.Reading.{◌>>=◌, old_key_at, old_keys_at, client_at, clients_at}
+use Rattle.byte_reader.specs.declared.unread.Unread.{Unread}
+use Rattle.byte_reader.specs.declared.unread.Unread.TheVariants as unread
+use Rattle.byte_reader.specs.Readers.{Fails}
+use Rattle.byte_reader.specs.Fields.{◌>>=◌}
+use Rattle.ring_file.specs.Reading.{old_key_at, old_keys_at, client_at, clients_at}
 
 left_over : (count counter : ℕ) → counter < count → count - counter ≡ suc (count - (counter + 1))
 left_over count counter lt = omega arith

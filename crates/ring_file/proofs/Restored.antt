@@ -12,9 +12,13 @@ use Rattle.keystore.specs.Rings.{ClientKeys, name_cmp}
 use Rattle.keystore.specs.Kept.{IsOlder, IsBefore, IsApart, IsPast, IsKeyed, has_id, has_old, ticket_of}
 use Rattle.keystore.proofs.Items.{all_push, ascends_push, all_weaker}
 use Rattle.ring_file.specs.Form.{key_bytes, old_bytes, client_bytes, IsFileKey, IsFileClient}
-use Rattle.ring_file.specs.Reading.{◌>>=◌, byte_at, number_at, bytes_at, name_length_at, key_count_at, current_at, last_of, comes_after, can_be_name, name_at, can_be_id, id_at, old_keys_at, keys_at, client_at, clients_at}
+use Rattle.byte_reader.proofs.Steps.{bind_ok, ok_is}
+use Rattle.byte_reader.proofs.Taken.{IsBytes, Takes, Takes-then, byte_takes, bytes_take, bytes_again}
+use Rattle.byte_reader.proofs.Widths.{le_wide16, number_takes, number_again}
+use Rattle.byte_reader.specs.Fields.{◌>>=◌, byte_at, le_number_at, bytes_at}
+use Rattle.ring_file.specs.Reading.{name_length_at, key_count_at, current_at, last_of, comes_after, can_be_name, name_at, can_be_id, id_at, old_keys_at, keys_at, client_at, clients_at}
 use Rattle.ring_file.proofs.Names.{all_bytes, each_byte}
-use Rattle.ring_file.proofs.Numbers.{bind_ok, ok_is, checked_ok, checked_again, IsBytes, Takes, Takes-then, byte_takes, wide16, number_takes, number_again, bytes_take, bytes_again}
+use Rattle.ring_file.proofs.Judged.{checked_ok, checked_again}
 use Rattle.ring_file.proofs.Rules.{both_true, ascends_front, all_behind, last_below, below_last, id_can, can_id, own_id, old_id, first_old, all_ids, free_apart, apart_free, last_before, before_last, or_second}
 use Rattle.ring_file.proofs.Keys.{id_takes, id_again, IsPastOf, olds_take, olds_again}
 
@@ -52,14 +56,14 @@ current_takes bytes x fits e =
 
 count_takes : (bytes : List ℕ) (x : ℕ × List ℕ) → IsBytes bytes → key_count_at bytes ≡ Ok x → Takes bytes (to_le_bytes w16 x.0) x.1 × ((1 ≤ x.0) × (x.0 ≤ 256))
 count_takes bytes x fits e =
-    let g = checked_ok (number_at w16 bytes) (λ n. leb 1 n.0 && leb n.0 256) (length bytes) x e in
+    let g = checked_ok (le_number_at w16 bytes) (λ n. leb 1 n.0 && leb n.0 256) (length bytes) x e in
     let can = both_true (leb 1 x.0) (leb x.0 256) g.1 in
-    ((number_takes w16 (2 ^ 16) wide16 bytes x fits g.0).0, (leb-true _ _ can.0, leb-true _ _ can.1))
+    ((number_takes w16 (2 ^ 16) le_wide16 bytes x fits g.0).0, (leb-true _ _ can.0, leb-true _ _ can.1))
 
 count_again : (n : ℕ) (rest : List ℕ) → 1 ≤ n → n ≤ 256 → key_count_at (to_le_bytes w16 n ++ rest) ≡ Ok (n, rest)
 count_again n rest least most =
     let can : (leb 1 n && leb n 256) ≡ true = rw (le-leb _ _ least, le-leb _ _ most) refl in
-    checked_again (number_at w16 (to_le_bytes w16 n ++ rest)) (λ m. leb 1 m.0 && leb m.0 256) (length (to_le_bytes w16 n ++ rest)) (n, rest) (number_again w16 (2 ^ 16) wide16 n rest (omega (arith, most))) can
+    checked_again (le_number_at w16 (to_le_bytes w16 n ++ rest)) (λ m. leb 1 m.0 && leb m.0 256) (length (to_le_bytes w16 n ++ rest)) (n, rest) (number_again w16 (2 ^ 16) le_wide16 n rest (omega (arith, most))) can
 
 past_each : (next : ℕ) (before : List ClientKeys) (id : ℕ) (ks : List OldKey) → AllByRecursion (IsPastOf next before) ks → AllByRecursion (λ (k : OldKey). k.id < id) ks → AllByRecursion (IsPast id 1) ks
 past_each next before id [] h below = tt

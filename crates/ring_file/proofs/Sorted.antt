@@ -6,14 +6,16 @@ use Rattle.keystore.specs.Rings.{ClientKeys}
 use Rattle.keystore.specs.Kept.{IsOlder}
 use Rattle.keystore.proofs.Items.{ascends_push}
 use Rattle.std.specs.Int.{w64}
-use Rattle.ring_file.specs.Reading.{◌>>=◌, number_at, bytes_at, name_length_at, key_count_at, current_at, old_phase_at, name_at, can_be_id, id_at, old_key_at, old_keys_at, keys_at, client_at}
+use Rattle.byte_reader.proofs.Steps.{bind_ok, ok_is}
+use Rattle.byte_reader.specs.Fields.{◌>>=◌, le_number_at, bytes_at}
+use Rattle.ring_file.specs.Reading.{name_length_at, key_count_at, current_at, old_phase_at, name_at, can_be_id, id_at, old_key_at, old_keys_at, keys_at, client_at}
 use Rattle.std.proofs.Common.{length}
-use Rattle.ring_file.proofs.Numbers.{bind_ok, ok_is, checked_ok}
+use Rattle.ring_file.proofs.Judged.{checked_ok}
 use Rattle.ring_file.proofs.Rules.{last_below, id_can}
 
 id_ok : (next : ℕ) (before : List ClientKeys) (past : List OldKey) (bytes : List ℕ) (x : ℕ × List ℕ) → id_at next before past bytes ≡ Ok x → can_be_id next before past x.0 ≡ true
 unfolding id_at
-id_ok next before past bytes x e = (checked_ok (number_at w64 bytes) (λ n. can_be_id next before past n.0) (length bytes) x e).1
+id_ok next before past bytes x e = (checked_ok (le_number_at w64 bytes) (λ n. can_be_id next before past n.0) (length bytes) x e).1
 
 key_ok : (next : ℕ) (before : List ClientKeys) (past : List OldKey) (bytes : List ℕ) (x : OldKey × List ℕ) → old_key_at next before past bytes ≡ Ok x → can_be_id next before past x.0.id ≡ true
 unfolding old_key_at

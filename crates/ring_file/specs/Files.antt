@@ -3,21 +3,10 @@ use Rattle.std.specs.Prelude.{ℕ, ◌≡◌, ◌-◌, nat_eq, nat_le, ◌&&◌,
 use Rattle.std.specs.Cmp.Lexicographic.{pointwise}
 use Rattle.acra_block.specs.Containers.{Sealing, Opening}
 use Rattle.keystore.specs.Rings.{RingState}
-use Rattle.ring_file.specs.declared.fields.Unread.{Unread}
-use Rattle.ring_file.specs.declared.fields.Unread.TheVariants as unread
 use Rattle.ring_file.specs.declared.file.RingFault.{RingFault}
 use Rattle.ring_file.specs.declared.file.RingFault.TheVariants as fault
 use Rattle.ring_file.specs.Form.{mark, ring_file, IsFileRing}
 use Rattle.ring_file.specs.Reading.{ring_read}
-
-abbrev pub Fails : {Y : Type 0} → Unread → Result Y ℕ → Type 0
-Fails unread.NoMemory read = Unit {0}
-Fails (unread.At left) read = read ≡ Err left
-
--- what a function returned, seen by view, is what reading gives, unless there is no memory
-abbrev pub Gives : {X Y : Type 0} → (X → Y) → Result X Unread → Result Y ℕ → Type 0
-Gives view (Ok x) read = read ≡ Ok (view x)
-Gives view (Err e) read = Fails e read
 
 -- the body of a file that begins with the mark and a nonce, where the master key opens it
 abbrev pub file_body : Opening → List ℕ → List ℕ → Option (List ℕ)

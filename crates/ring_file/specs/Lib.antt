@@ -1,3 +1,5 @@
 pub mod Form
 pub mod Reading
 pub mod Files
+pub mod Whole
+pub mod Master

@@ -2,7 +2,8 @@
 -- left where the first field stands that can't be so, by its own rules and the fields before it.
 use Rattle.std.specs.Prelude.{ℕ, zero, suc, ◌&&◌, ◌+◌, ◌-◌, ◌==◌, nat_le, nat_lt, Bool, true, false, not, if◌then◌else◌, List, [], ◌∷◌, ◌++◌, length, take, drop, Option, Some, None, Result, Ok, Err}
 use Rattle.std.specs.List.{list_all, list_any}
-use Rattle.std.specs.Int.{Width, w16, w64, byte_len, from_le_bytes}
+use Rattle.std.specs.Int.{w16, w64}
+use Rattle.byte_reader.specs.Fields.{◌>>=◌, byte_at, le_number_at, bytes_at, alone}
 use Rattle.std.specs.Ordering.{is_lt}
 use Rattle.acra_base.specs.Client.{is_id_byte}
 use Rattle.keystore.specs.declared.phase.OldPhase.{OldPhase}
@@ -11,37 +12,22 @@ use Rattle.keystore.specs.declared.phase.OldKey.{OldKey}
 use Rattle.keystore.specs.Rings.{ClientKeys, RingState, name_cmp, restored_ring}
 use Rattle.keystore.specs.Kept.{has_id}
 
-infixl 10 ◌>>=◌
-abbrev pub ◌>>=◌ : {A B : Type 0} → Result A ℕ → (A → Result B ℕ) → Result B ℕ
-(Ok x) >>= f = f x
-(Err left) >>= f = Err left
-
 -- a field that was read, where it can be so
 abbrev pub judged : {A : Type 0} → Bool → ℕ → A → Result A ℕ
 judged can left x = if can then Ok x else Err left
 
 -- ---- fields by themselves
 
-abbrev pub byte_at : List ℕ → Result (ℕ × List ℕ) ℕ
-byte_at [] = Err 0
-byte_at (b ∷ bytes) = Ok (b, bytes)
-
-abbrev pub number_at : Width → List ℕ → Result (ℕ × List ℕ) ℕ
-number_at w bytes = if nat_lt (length bytes) (byte_len w) then Err (length bytes) else Ok (from_le_bytes w (take (byte_len w) bytes), drop (byte_len w) bytes)
-
-abbrev pub bytes_at : ℕ → List ℕ → Result (List ℕ × List ℕ) ℕ
-bytes_at n bytes = if nat_lt (length bytes) n then Err (length bytes) else Ok (take n bytes, drop n bytes)
-
 abbrev pub next_id_at : List ℕ → Result (ℕ × List ℕ) ℕ
-next_id_at bytes = number_at w64 bytes >>= λ n. judged (nat_le 1 n.0) (length bytes) n
+next_id_at bytes = le_number_at w64 bytes >>= λ n. judged (nat_le 1 n.0) (length bytes) n
 
 -- at most 256 clients
 abbrev pub client_count_at : List ℕ → Result (ℕ × List ℕ) ℕ
-client_count_at bytes = number_at w16 bytes >>= λ n. judged (nat_le n.0 256) (length bytes) n
+client_count_at bytes = le_number_at w16 bytes >>= λ n. judged (nat_le n.0 256) (length bytes) n
 
 -- 1 to 256 keys
 abbrev pub key_count_at : List ℕ → Result (ℕ × List ℕ) ℕ
-key_count_at bytes = number_at w16 bytes >>= λ n. judged (nat_le 1 n.0 && nat_le n.0 256) (length bytes) n
+key_count_at bytes = le_number_at w16 bytes >>= λ n. judged (nat_le 1 n.0 && nat_le n.0 256) (length bytes) n
 
 -- 1 to 64 bytes
 abbrev pub name_length_at : List ℕ → Result (ℕ × List ℕ) ℕ
@@ -85,7 +71,7 @@ abbrev pub can_be_id : ℕ → List ClientKeys → List OldKey → ℕ → Bool
 can_be_id next before past id = nat_lt (id_or_zero (last_of past)) id && nat_lt id next && not (list_any (has_id id) before)
 
 unfoldable pub id_at : ℕ → List ClientKeys → List OldKey → List ℕ → Result (ℕ × List ℕ) ℕ
-id_at next before past bytes = number_at w64 bytes >>= λ n. judged (can_be_id next before past n.0) (length bytes) n
+id_at next before past bytes = le_number_at w64 bytes >>= λ n. judged (can_be_id next before past n.0) (length bytes) n
 
 unfoldable pub old_key_at : ℕ → List ClientKeys → List OldKey → List ℕ → Result (OldKey × List ℕ) ℕ
 old_key_at next before past bytes = do
@@ -125,10 +111,6 @@ clients_at next zero before bytes = Ok (before, bytes)
 clients_at next (suc n) before bytes = do
   client ← client_at next before bytes
   clients_at next n (before ++ client.0 ∷ []) client.1
-
--- nothing follows
-abbrev pub alone : {A : Type 0} → A × List ℕ → Result A ℕ
-alone x = if length x.1 == 0 then Ok x.0 else Err (length x.1)
 
 -- the next id and the clients of a ring with these keys
 abbrev pub ring_behind : List ℕ → List ℕ → List ℕ → List ℕ → Result (RingState × List ℕ) ℕ

@@ -1,10 +1,11 @@
 ghost use Rattle.std.specs.Prelude.{◌≡◌, IfOk};
 ghost use Rattle.ring_file.specs.Form.{ring_body, IsFileRing};
 ghost use Rattle.ring_file.specs.Reading.{ring_at, ring_read};
-ghost use Rattle.ring_file.specs.Files.{Gives};
+ghost use Rattle.byte_reader.specs.Readers.{Gives};
 
 use crate::clients::clients_of;
-use crate::fields::{Unread, client_count_of, key_of, next_id_of};
+use crate::fields::{client_count_of, next_id_of};
+use byte_reader::{Unread, array_of};
 use keystore::{Client, Ring};
 use std::alloc::Global;
 use std::marker::Model;
@@ -32,9 +33,9 @@ impl Model for Parts {
 fn parts_of(alloc: Global, bytes: &[u8]) -> Result<(Parts, &[u8]), Unread>
     ensures { Gives (λ x. (x.0, x.1.now)) result (ring_at bytes.now) }
 {
-    let (token_key, rest) = key_of(bytes)?;
-    let (store_key, rest) = key_of(rest)?;
-    let (audit_key, rest) = key_of(rest)?;
+    let (token_key, rest) = array_of(bytes)?;
+    let (store_key, rest) = array_of(rest)?;
+    let (audit_key, rest) = array_of(rest)?;
     let (next_id, rest) = next_id_of(rest)?;
     let (count, rest) = client_count_of(rest)?;
     let (clients, rest) = clients_of(alloc, next_id, count, rest)?;

@@ -4,11 +4,12 @@ ghost use Rattle.acra_base.specs.Client.{is_id_byte};
 ghost use Rattle.keystore.specs.Lists.{AscendsBy};
 ghost use Rattle.keystore.specs.Kept.{IsOlder};
 ghost use Rattle.ring_file.specs.Reading.{comes_after, last_of, name_at, old_key_at, old_keys_at, keys_at, client_at, clients_at};
-ghost use Rattle.ring_file.specs.Files.{Gives};
+ghost use Rattle.byte_reader.specs.Readers.{Gives};
 
-use crate::fields::{Unread, current_of, key_count_of, key_of, name_length_of, old_phase_of};
+use crate::fields::{current_of, key_count_of, name_length_of, old_phase_of};
 use crate::ids::id_of;
-use acra_base::{ClientId, NoMemory};
+use acra_base::ClientId;
+use byte_reader::{Unread, array_of};
 use keystore::{Client, OldKey};
 use std::alloc::Global;
 use std::cmp::Ordering;
@@ -71,7 +72,7 @@ fn old_key_of<'a>(
 {
     let (id, rest) = id_of(next, clients, past, bytes)?;
     let (phase, rest) = old_phase_of(rest)?;
-    let (key, rest) = key_of(rest)?;
+    let (key, rest) = array_of(rest)?;
     Ok((OldKey { id, key, phase }, rest))
 }
 
@@ -117,7 +118,7 @@ fn keys_of<'a>(
     let (past, rest) = old_keys_of(alloc, next, clients, count - 1, rest)?;
     let (id, rest) = id_of(next, clients, &past, rest)?;
     let (_, rest) = current_of(rest)?;
-    let (key, rest) = key_of(rest)?;
+    let (key, rest) = array_of(rest)?;
     Ok((Client::restored(*name, *search, past, id, key), rest))
 }
 
@@ -135,7 +136,7 @@ fn client_of<'a>(
     let (len, rest) = name_length_of(bytes)?;
     match name_of(clients, len, rest) {
         Ok((name, rest)) => {
-            let (search, rest) = key_of(rest)?;
+            let (search, rest) = array_of(rest)?;
             keys_of(alloc, next, clients, &name, &search, rest)
         }
         Err(why) => Err(why),

@@ -1,89 +1,15 @@
 ghost use Rattle.std.specs.Prelude.{◌≡◌};
-ghost use Rattle.std.specs.Int.{w16, w64};
-ghost use Rattle.ring_file.specs.Reading.{byte_at, number_at, bytes_at, next_id_at, client_count_at, key_count_at, name_length_at, old_phase_at, current_at};
-ghost use Rattle.ring_file.specs.Files.{Gives};
-ghost use Rattle.ring_file.specs.declared.fields.Unread.TheVariants.{NoMemory as no_memory};
+ghost use Rattle.ring_file.specs.Reading.{next_id_at, client_count_at, key_count_at, name_length_at, old_phase_at, current_at};
+ghost use Rattle.byte_reader.specs.Readers.{Gives};
 
-use acra_base::NoMemory;
+use byte_reader::{Unread, byte_of, le_u16_of, le_u64_of};
 use keystore::OldPhase;
-use std::alloc::AllocFailed;
-
-/// Why a field is not read.
-#[derive(Clone, Copy, Debug, PartialEq, Eq)]
-pub enum Unread {
-    /// No field can be read where this many bytes of the body are left.
-    At { left: usize },
-    /// There was no memory for it.
-    NoMemory,
-}
-
-impl From<NoMemory> for Unread {
-    ghost from_gives = { λ _ e. e ≡ no_memory };
-
-    fn from(_: NoMemory) -> Unread {
-        Unread::NoMemory
-    }
-}
-
-impl<T: Drop> From<AllocFailed<T>> for Unread {
-    ghost from_gives = { λ _ e. e ≡ no_memory };
-
-    fn from(_: AllocFailed<T>) -> Unread {
-        Unread::NoMemory
-    }
-}
-
-fn byte_of(bytes: &[u8]) -> Result<(u8, &[u8]), Unread>
-    ensures { Gives (λ x. (x.0, x.1.now)) result (byte_at bytes.now) }
-{
-    match bytes {
-        [] => Err(Unread::At { left: 0 }),
-        [byte, rest @ ..] => Ok((*byte, rest)),
-    }
-}
-
-fn u16_of(bytes: &[u8]) -> Result<(u16, &[u8]), Unread>
-    ensures { Gives (λ x. (x.0, x.1.now)) result (number_at w16 bytes.now) }
-{
-    if bytes.len() < 2 {
-        return Err(Unread::At { left: bytes.len() });
-    }
-    let (front, rest) = bytes.split_at(2);
-    Ok((u16::from_le_bytes([front[0], front[1]]), rest))
-}
-
-/// Reads a number of eight bytes.
-pub fn u64_of(bytes: &[u8]) -> Result<(u64, &[u8]), Unread>
-    ensures { Gives (λ x. (x.0, x.1.now)) result (number_at w64 bytes.now) }
-{
-    if bytes.len() < 8 {
-        return Err(Unread::At { left: bytes.len() });
-    }
-    let (front, rest) = bytes.split_at(8);
-    let number = u64::from_le_bytes([
-        front[0], front[1], front[2], front[3], front[4], front[5], front[6], front[7],
-    ]);
-    Ok((number, rest))
-}
-
-/// Reads a key.
-pub fn key_of(bytes: &[u8]) -> Result<([u8; 32], &[u8]), Unread>
-    ensures { Gives (λ x. (x.0, x.1.now)) result (bytes_at 32 bytes.now) }
-{
-    if bytes.len() < 32 {
-        return Err(Unread::At { left: bytes.len() });
-    }
-    let (front, rest) = bytes.split_at(32);
-    let mut key = [0; 32];
-    key.copy_from_slice(front);
-    Ok((key, rest))
-}
 
 /// Reads the id that the next key gets.
 pub fn next_id_of(bytes: &[u8]) -> Result<(u64, &[u8]), Unread>
     ensures { Gives (λ x. (x.0, x.1.now)) result (next_id_at bytes.now) }
 {
-    let (next, rest) = u64_of(bytes)?;
+    let (next, rest) = le_u64_of(bytes)?;
     if next < 1 {
         return Err(Unread::At { left: bytes.len() });
     }
@@ -94,7 +20,7 @@ pub fn next_id_of(bytes: &[u8]) -> Result<(u64, &[u8]), Unread>
 pub fn client_count_of(bytes: &[u8]) -> Result<(u16, &[u8]), Unread>
     ensures { Gives (λ x. (x.0, x.1.now)) result (client_count_at bytes.now) }
 {
-    let (count, rest) = u16_of(bytes)?;
+    let (count, rest) = le_u16_of(bytes)?;
     if count > 256 {
         return Err(Unread::At { left: bytes.len() });
     }
@@ -105,7 +31,7 @@ pub fn client_count_of(bytes: &[u8]) -> Result<(u16, &[u8]), Unread>
 pub fn key_count_of(bytes: &[u8]) -> Result<(u16, &[u8]), Unread>
     ensures { Gives (λ x. (x.0, x.1.now)) result (key_count_at bytes.now) }
 {
-    let (count, rest) = u16_of(bytes)?;
+    let (count, rest) = le_u16_of(bytes)?;
     if count < 1 || count > 256 {
         return Err(Unread::At { left: bytes.len() });
     }

@@ -6,10 +6,10 @@ ghost use Rattle.ring_file.specs.Form.{mark, ring_body, ring_file, IsFileRing};
 ghost use Rattle.ring_file.specs.Files.{file_body, IsReadBody, IsReadFile, SpellsRing, ReadsAs};
 
 use crate::body::ring_of;
-use crate::fields::Unread;
 use crate::writing::body_of;
 use acra_base::{Bytes, NoMemory};
 use acra_crypto::Aead;
+use byte_reader::Unread;
 use keystore::Ring;
 use std::alloc::Global;
 use thiserror::Error;

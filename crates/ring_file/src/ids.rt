@@ -3,9 +3,9 @@ ghost use Rattle.std.specs.List.{AllByRecursion, list_any};
 ghost use Rattle.keystore.specs.Lists.{AscendsBy};
 ghost use Rattle.keystore.specs.Kept.{IsOlder, has_id};
 ghost use Rattle.ring_file.specs.Reading.{id_at, can_be_id, id_or_zero, last_of};
-ghost use Rattle.ring_file.specs.Files.{Gives};
+ghost use Rattle.byte_reader.specs.Readers.{Gives};
 
-use crate::fields::{Unread, u64_of};
+use byte_reader::{Unread, le_u64_of};
 use keystore::{Client, OldKey};
 
 /// The id of the newest of these keys, 0 where there is none.
@@ -49,7 +49,7 @@ pub fn id_of<'a>(
     requires { AllByRecursion (λ c. AscendsBy IsOlder c.past) clients.now }
     ensures { Gives (λ x. (x.0, x.1.now)) result (id_at next clients.now past.now bytes.now) }
 {
-    let (id, rest) = u64_of(bytes)?;
+    let (id, rest) = le_u64_of(bytes)?;
     if !can_be_id(next, clients, past, id) {
         return Err(Unread::At { left: bytes.len() });
     }

@@ -1,4 +1,5 @@
-//! The file of a ring: all its keys, sealed under a master key.
+//! The files that keep keys: the ring with all its keys, sealed under a master key, and the master key in its file;
+//! and a file that is read whole, up to a limit.
 #![tactic(auto)]
 
 mod body;
@@ -6,9 +7,10 @@ mod clients;
 mod fields;
 mod file;
 mod ids;
+mod master;
+mod whole;
 mod writing;
 
 pub use file::{RingFault, read_ring, write_ring};
-
-#[cfg(test)]
-mod tests;
+pub use master::{MasterFault, read_master};
+pub use whole::{FileRefusal, read_file};

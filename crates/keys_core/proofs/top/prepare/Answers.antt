@@ -3,15 +3,15 @@ use Rattle.keys_core.proofs.Runs.{prepared, too_long_run, worked_caused, master_
 use Rattle.keys_core.proofs.Again.{with_key}
 use Rattle.keys_core.proofs.top.prepare.Goals as goal
 
-pub returns-in-Ok-read_whole-clause-run : goal.returns-in-Ok-read_whole-clause-run
-returns-in-Ok-read_whole-clause-run g c m r s t em em' er er' es et =
-    prepared c.args.ask.now m r c.in-Ok.key c.in-Ok-read_whole.bytes s t c.worked.result (c.in-Ok.ensures.key m em em') (c.in-Ok-read_whole.ensures.whole r er er') c.in-Ok-read_whole.ensures.within (rw c.as_slice.ensures at (c.worked.ensures.run s t es et))
+pub returns-in-Ok-read_file-clause-run : goal.returns-in-Ok-read_file-clause-run
+returns-in-Ok-read_file-clause-run g c m r s t em em' er er' es et =
+    prepared c.args.ask.now m r c.in-Ok.key c.in-Ok-read_file.bytes s t c.worked.result (c.in-Ok.ensures.key m em em') (c.in-Ok-read_file.ensures.whole r er er') c.in-Ok-read_file.ensures.within (rw c.as_slice.ensures at (c.worked.ensures.run s t es et))
 
-pub returns-in-Ok-read_whole-clause-kept : goal.returns-in-Ok-read_whole-clause-kept
-returns-in-Ok-read_whole-clause-kept g c m em em' changed = with_key m c.in-Ok.key c.worked.result (c.in-Ok.ensures.key m em em') (c.worked.ensures.kept changed)
+pub returns-in-Ok-read_file-clause-kept : goal.returns-in-Ok-read_file-clause-kept
+returns-in-Ok-read_file-clause-kept g c m em em' changed = with_key m c.in-Ok.key c.worked.result (c.in-Ok.ensures.key m em em') (c.worked.ensures.kept changed)
 
-pub returns-in-Ok-read_whole-clause-cause : goal.returns-in-Ok-read_whole-clause-cause
-returns-in-Ok-read_whole-clause-cause g c = worked_caused _ _ _ _ _ _ c.worked.result c.worked.ensures.cause
+pub returns-in-Ok-read_file-clause-cause : goal.returns-in-Ok-read_file-clause-cause
+returns-in-Ok-read_file-clause-cause g c = worked_caused _ _ _ _ _ _ c.worked.result c.worked.ensures.cause
 
 pub returns-in-Err-TooLong-clause-run : goal.returns-in-Err-TooLong-clause-run
 returns-in-Err-TooLong-clause-run g c m r s t em em' er er' es et =

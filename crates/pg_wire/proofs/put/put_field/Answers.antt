@@ -2,7 +2,7 @@ use Rattle.std.proofs.Common.{ℕ, ◌++◌, ap, ◌∙◌, rules}
 use Rattle.std.specs.Int.{w16, w32, to_be_bytes, cast_unsigned}
 use Rattle.std.proofs.lemmas.Int.{to_z-of_z}
 use mir.Val.{SFits}
-use Rattle.pg_wire.specs.Fronts.{str}
+use Rattle.byte_reader.specs.Fields.{str}
 use Rattle.pg_wire.proofs.Appends.{seven_appended}
 use Rattle.pg_wire.proofs.put.put_field.Goals as goal
 

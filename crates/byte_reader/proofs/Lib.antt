@@ -1,0 +1,5 @@
+pub mod Steps
+pub mod Taken
+pub mod Widths
+pub mod Texts
+pub mod Within

@@ -1,6 +1,6 @@
-use lab_core::Status;
 use crate::testing::*;
 use acra_devices::SureLink;
+use lab_core::Status;
 use pg_wire::{FrameFault, MessageFault};
 use std::alloc::Global;
 use std::process::Abort;

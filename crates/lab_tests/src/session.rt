@@ -1,6 +1,6 @@
-use lab_core::{Status, lab_top};
 use crate::testing::*;
 use acra_devices::{MemLink, SureLink};
+use lab_core::{Status, lab_top};
 use pg_wire::{FrameFault, MessageFault};
 use std::alloc::Global;
 use std::test::Fail;

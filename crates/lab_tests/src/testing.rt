@@ -1,7 +1,7 @@
 //! What the tests of sessions share.
 
-use lab_core::{Status, lab_top};
 use acra_devices::{Failed, Source, SureLink};
+use lab_core::{Status, lab_top};
 use std::alloc::Global;
 use std::test::Fail;
 

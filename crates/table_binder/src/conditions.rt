@@ -12,8 +12,8 @@ ghost use Rattle.table_machine.specs.Stored.{stored};
 ghost use Rattle.table_binder.specs.Binding.{IsBound};
 ghost use Rattle.table_binder.specs.Bound as bound;
 
-use crate::refusal::BindRefusal;
 use crate::names::{kind_of, place};
+use crate::refusal::BindRefusal;
 use crate::values::read_value;
 use acra_base::{Sequence, ValueKind};
 use sql_tree::{Cond, Op, Operand};

@@ -10,8 +10,8 @@ ghost use Rattle.table_machine.specs.Machine as machine;
 ghost use Rattle.table_machine.specs.Stored.{stored};
 ghost use Rattle.table_binder.specs.Binding.{IsBound};
 
-use crate::refusal::BindRefusal;
 use crate::names::{Named, kind_of, place_of};
+use crate::refusal::BindRefusal;
 use crate::sets::set_at;
 use crate::values::read_value;
 use acra_base::{Name, NoMemory, Sequence};

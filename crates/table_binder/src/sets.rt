@@ -8,8 +8,8 @@ ghost use Rattle.table_machine.specs.Stored.{stored};
 ghost use Rattle.table_binder.specs.Binding.{IsBound};
 ghost use Rattle.table_binder.specs.Sets.{bound_set, set_cells};
 
-use crate::refusal::BindRefusal;
 use crate::names::{kind_of, place};
+use crate::refusal::BindRefusal;
 use crate::values::read_value;
 use acra_base::{Bytes, NoMemory, Sequence};
 use sql_tree::{Operand, SetPair};

@@ -6,8 +6,8 @@ ghost use Rattle.table_machine.specs.Stored.{stored};
 ghost use Rattle.table_binder.specs.Binding.{IsBound};
 ghost use Rattle.table_binder.specs.Bound.{cell_for};
 
-use crate::refusal::BindRefusal;
 use crate::faults::{bad_value, beyond_range};
+use crate::refusal::BindRefusal;
 use acra_base::{Name, ValueKind};
 use sql_tree::Operand;
 use std::alloc::Global;

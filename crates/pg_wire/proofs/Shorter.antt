@@ -1,5 +1,5 @@
 -- What is behind a field is shorter.
-use Rattle.std.proofs.Common.{◌≡◌, ℕ, ◌<◌, List, [], ◌∷◌, length, Result, Ok, ap, arith}
+use Rattle.std.proofs.Common.{◌≡◌, ℕ, ◌<◌, List, [], ◌∷◌, length, Ok, ap, arith}
 use Rattle.pg_wire.specs.declared.front.Pair.{Pair}
 use Rattle.pg_wire.specs.declared.back.ErrorField.{ErrorField}
 use Rattle.byte_reader.specs.Fields.{◌>>=◌, str_at}

@@ -18,12 +18,19 @@ fn numbers(rt: HostRuntime) {
 }
 
 #[test]
+fn slices(rt: HostRuntime) {
+    let (taken, rest) = slice_of(8, BYTES).ok().expect(&rt, "eight bytes");
+    assert!(rt; taken.len() == 8 && rest == b"z".as_slice());
+    let (pair, rest) = array_of::<2>(BYTES).ok().expect(&rt, "two bytes");
+    assert!(rt; pair == [1, 2] && rest.len() == 7);
+    assert!(rt; array_of::<10>(BYTES).is_err());
+}
+
+#[test]
 fn texts(rt: HostRuntime) {
     let alloc = rt.alloc();
-    assert!(rt; matches!(slice_of(8, BYTES), Ok((_, [b'z']))));
-    assert!(rt; matches!(array_of::<2>(BYTES), Ok(([1, 2], [3, ..]))));
     let (taken, _) = bytes_of(alloc, 2, BYTES).ok().expect(&rt, "two bytes");
-    assert!(rt; taken.as_slice() == &BYTES[..2]);
+    assert!(rt; taken.as_slice() == b"\x01\x02".as_slice());
     let (text, rest) = text_of(alloc, b"ab\0c").ok().expect(&rt, "a text");
     assert!(rt; text.as_slice() == b"ab".as_slice() && rest == b"c".as_slice());
     assert!(rt; matches!(text_of(alloc, b"ab"), Err(Unread::At { left: 2 })));

@@ -30,7 +30,7 @@ served false (fronts.Startup params) h = tt
 served false (fronts.Query text) h = tt
 served false _ h = absurd h
 
--- the frame at the front, with its parts
+-- the first frame, with its parts
 begun : (s : Stream) (kind : ℕ) (body rest : List ℕ) (request : Front) → IsFrame side.Client s.limit s.opening kind body → s.left ≡ frame_bytes kind body ++ rest
     → kind ≡ front_kind request → body ≡ front_body request → IsServed request
     → IsFrame side.Client s.limit s.opening (front_kind request) (front_body request) × (s.left ≡ front_frame request ++ rest)

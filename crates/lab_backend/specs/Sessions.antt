@@ -67,7 +67,7 @@ session_behind s request rest = record { stream = behind s.stream (front_kind re
 abbrev pub Waits : Session → Session → Type 0
 Waits s t = (t ≡ s) ⊎ ((t.over ≡ true) × NeverBegins s.stream)
 
--- the frame at the front is taken
+-- the first frame is taken
 pub record TakesFrame (s t : Stream) : Type 0 where
   pub kind : ℕ
   pub body : List ℕ

@@ -12,8 +12,8 @@ use crate::line::{note_text, read_note, with_mac};
 use crate::note::Note;
 use crate::refusals::AppendRefusal;
 use acra_base::NoMemory;
-use acra_devices::Keeper;
 use acra_crypto::{HmacStream, hmac_sha256};
+use acra_devices::Keeper;
 use std::alloc::Global;
 use std::marker::Model;
 

@@ -5,8 +5,8 @@ ghost use Rattle.acra_devices.specs.Causes.{Rose};
 ghost use Rattle.audit_chain.specs.Verdicts.{WhereRead};
 ghost use Rattle.audit_core.specs.Keys.{MasterFound, RingFound, RingDue};
 
-use acra_devices::Source;
 use acra_crypto::Aes256Gcm;
+use acra_devices::Source;
 use key_files::{MasterFault, WholeFault, read_master, read_whole};
 use ring_file::{RingFault, read_ring};
 use std::alloc::Global;

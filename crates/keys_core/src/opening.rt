@@ -7,8 +7,8 @@ ghost use Rattle.keys_core.specs.Told.{Drew, OpensAs};
 ghost use Rattle.keys_core.specs.declared.opening.Shut.TheVariants as shut;
 
 use crate::status::RingTrouble;
-use acra_devices::Random;
 use acra_crypto::Aes256Gcm;
+use acra_devices::Random;
 use keystore::Ring;
 use ring_file::{RingFault, read_ring};
 use std::alloc::Global;

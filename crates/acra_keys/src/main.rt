@@ -92,7 +92,11 @@ fn work(rt: HostRuntime, program: &Program, words: &[String], folder: &str) -> E
         Err(Trouble::NoMemory) => program.no_memory(&rt),
         Err(Trouble::NotOpened { file, why }) => {
             let code = KeysStatus::ReadFault { file }.code();
-            program.end(&rt, &format_args!("ReadFault: {folder}/{file}: {why}"), code)
+            program.end(
+                &rt,
+                &format_args!("ReadFault: {folder}/{file}: {why}"),
+                code,
+            )
         }
     }
 }

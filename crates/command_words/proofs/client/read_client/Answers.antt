@@ -1,5 +1,3 @@
-use Rattle.std.proofs.Common.{◌≡◌, ◌∙◌, subst, sym}
-use Rattle.acra_base.specs.Client.{IsClientId}
 use Rattle.command_words.proofs.Texts.{client_again}
 use Rattle.command_words.proofs.client.read_client.Goals as goal
 

@@ -1,32 +1,16 @@
 //! The program: opens the files `master` and `keystore` of a folder, does what its words ask, and keeps the ring.
 #![tactic(auto)]
 
+mod help;
+
 use acra_devices::{FileKeeper, ReaderSource, SystemRandom, WriterSink};
-use keys_core::{KeysStatus, ask_of, keys_top};
-use std::fs::File;
+use help::HELP;
+use keys_core::{KeyFile, KeysStatus, ask_of, keys_top};
+use program_end::Program;
+use std::alloc::AllocError;
+use std::fs::{self, File};
 use std::io::{self, ErrorKind, Read};
 use std::process::ExitCode;
-use std::{env, fs};
-
-const HELP: &str = "\
-Usage: acra_keys DIR generate ID
-       acra_keys DIR list
-       acra_keys DIR destroy ID KEY
-       acra_keys DIR check
-
-Keeps the keys of clients in DIR/keystore, sealed under the key in DIR/master,
-which is 64 hexadecimal digits.
-
-  generate ID      add a client with its first key, and print `ID KEY`
-  list             print `ID KEY PHASE` for each key
-  destroy ID KEY   remove a swept key
-  check            print how many clients and keys there are
-  --help           print this text
-  --version        print the program's version
-
-Exit status: 0 done, 1 usage, 2 a file is refused, 3 refused, 4 reading failed,
-5 printing failed, 6 out of memory, 7 writing failed, 8 no random bytes.
-";
 
 /// The ring's file, or none yet.
 #[derive(Drop)]
@@ -44,32 +28,53 @@ impl Read for RingFile {
     }
 }
 
-/// Says what is wrong with a file of the folder.
-fn say(rt: &HostRuntime, folder: &str, name: &str, why: &io::Error) -> io::Result<ExitCode> {
-    eprintln!(rt; "acra_keys: {folder}/{name}: {why}")?;
-    Ok(ExitCode::from(4))
+/// Why a run has no status of the key tool.
+#[derive(Drop)]
+enum Trouble {
+    /// The system doesn't open this file.
+    NotOpened { file: KeyFile, why: io::Error },
+    /// There was no memory.
+    NoMemory,
+}
+
+impl From<AllocError> for Trouble {
+    fn from(_: AllocError) -> Trouble {
+        Trouble::NoMemory
+    }
+}
+
+fn open_master(rt: &HostRuntime, folder: &str) -> Result<File, Trouble> {
+    let path = format!(in rt.alloc(); "{folder}/master")?;
+    fs::open(rt, path.as_str()).map_err(|why| Trouble::NotOpened {
+        file: KeyFile::Master,
+        why,
+    })
+}
+
+/// The ring's file. One that is missing is an empty one.
+fn open_ring(rt: &HostRuntime, folder: &str) -> Result<RingFile, Trouble> {
+    let path = format!(in rt.alloc(); "{folder}/keystore")?;
+    match fs::open(rt, path.as_str()) {
+        Ok(file) => Ok(RingFile::There(file)),
+        Err(why) if why.kind() == ErrorKind::NotFound => Ok(RingFile::Missing),
+        Err(why) => Err(Trouble::NotOpened {
+            file: KeyFile::Ring,
+            why,
+        }),
+    }
 }
 
 /// Does what the words ask in a folder.
-fn run(rt: HostRuntime, words: &[String], folder: &str) -> io::Result<ExitCode> {
+fn run(rt: HostRuntime, words: &[String], folder: &str) -> Result<KeysStatus, Trouble> {
     let alloc = rt.alloc();
-    let master = match fs::open(&rt, format!(in alloc; "{folder}/master")?) {
-        Ok(file) => file,
-        Err(why) => return say(&rt, folder, "master", &why),
-    };
-    let ring = match fs::open(&rt, format!(in alloc; "{folder}/keystore")?) {
-        Ok(file) => RingFile::There(file),
-        Err(why) if why.kind() == ErrorKind::NotFound => RingFile::Missing,
-        Err(why) => return say(&rt, folder, "keystore", &why),
-    };
-    let mut master = ReaderSource::new(master);
-    let mut ring = ReaderSource::new(ring);
+    let mut master = ReaderSource::new(open_master(&rt, folder)?);
+    let mut ring = ReaderSource::new(open_ring(&rt, folder)?);
     let Ok(mut keeper) = FileKeeper::new(alloc, rt, folder, "keystore") else {
-        return Err(io::Error::from(ErrorKind::OutOfMemory));
+        return Err(Trouble::NoMemory);
     };
     let mut random = SystemRandom::new(rt);
     let mut output = WriterSink::new(io::writer(&rt));
-    let status = keys_top(
+    Ok(keys_top(
         alloc,
         words,
         &mut master,
@@ -77,33 +82,36 @@ fn run(rt: HostRuntime, words: &[String], folder: &str) -> io::Result<ExitCode> 
         &mut keeper,
         &mut random,
         &mut output,
-    );
-    if !matches!(status, KeysStatus::Done | KeysStatus::Refused { .. }) {
-        eprintln!(rt; "acra_keys: {folder}: {status}")?;
-    }
-    Ok(ExitCode::from(status.code()))
+    ))
 }
 
-fn main(rt: HostRuntime) -> io::Result<ExitCode> {
-    let alloc = rt.alloc();
-    let mut words = Vec::new(alloc);
-    for word in env::args(&rt)?.skip(1) {
-        words.push(word)?;
+/// Does what the words ask in a folder, to the end of the program.
+fn work(rt: HostRuntime, program: &Program, words: &[String], folder: &str) -> ExitCode {
+    match run(rt, words, folder) {
+        Ok(status) => program.end(&rt, &status, status.code()),
+        Err(Trouble::NoMemory) => program.no_memory(&rt),
+        Err(Trouble::NotOpened { file, why }) => {
+            let code = KeysStatus::ReadFault { file }.code();
+            program.end(
+                &rt,
+                &format_args!("ReadFault: {folder}/{file}: {why}"),
+                code,
+            )
+        }
     }
+}
+
+fn main(rt: HostRuntime) -> ExitCode {
+    let program = Program {
+        name: "acra_keys",
+        help: HELP,
+    };
+    let words = match program.begin(&rt, &KeysStatus::Usage) {
+        Ok(words) => words,
+        Err(code) => return code,
+    };
     match words.first() {
-        Some(word) if word.as_str() == "--help" => {
-            print!(rt; "{HELP}")?;
-            return Ok(ExitCode::from(0));
-        }
-        Some(word) if word.as_str() == "--version" => {
-            println!(rt; "acra_keys 0.1.0")?;
-            return Ok(ExitCode::from(0));
-        }
-        _ => {}
+        Some(folder) if ask_of(&words).is_some() => work(rt, &program, &words, folder.as_str()),
+        _ => program.end(&rt, &KeysStatus::Usage, KeysStatus::Usage.code()),
     }
-    if words.is_empty() || ask_of(&words).is_none() {
-        eprintln!(rt; "acra_keys: {}", KeysStatus::Usage)?;
-        return Ok(ExitCode::from(1));
-    }
-    run(rt, &words, words[0].as_str())
 }

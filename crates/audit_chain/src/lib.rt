@@ -21,6 +21,3 @@ pub use laws::one_finding;
 pub use note::Note;
 pub use refusals::{AppendRefusal, ResumeFault};
 pub use verifier::{AuditVerdict, VerifyFault, verify};
-
-#[cfg(test)]
-mod tests;

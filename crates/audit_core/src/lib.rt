@@ -9,6 +9,3 @@ mod top;
 
 pub use status::{AuditStatus, FolderFile};
 pub use top::audit_top;
-
-#[cfg(test)]
-mod tests;

@@ -1,4 +1,3 @@
-pub mod Texts
 pub mod Limits
 pub mod Runs
 pub mod Again

@@ -11,6 +11,3 @@ mod work;
 pub use status::{KeyFile, KeysStatus, Refusal, RingTrouble};
 pub use top::keys_top;
 pub use words::{Ask, ask_of};
-
-#[cfg(test)]
-mod tests;

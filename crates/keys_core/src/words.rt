@@ -1,7 +1,8 @@
-ghost use Rattle.std.specs.Prelude.{◌≡◌, ℕ, map, string_bytes, if◌then◌else◌, Option, Some, None};
-ghost use Rattle.keys_core.specs.Words.{is_id_text, number_of, one_word, with_id, with_key, asked};
+ghost use Rattle.std.specs.Prelude.{◌≡◌, map, string_bytes};
+ghost use Rattle.keys_core.specs.Words.{one_word, with_id, with_key, asked};
 
 use acra_base::ClientId;
+use command_words::{read_client, read_number};
 
 /// What the words ask.
 #[derive(Clone, Copy)]
@@ -14,38 +15,6 @@ pub enum Ask {
     Destroy(ClientId, u64),
     /// How many clients and keys there are.
     Check,
-}
-
-/// The client of this name, where it is one.
-fn client_of(name: &str) -> Option<ClientId>
-    ensures { result ≡ (if is_id_text name.now then Some name.now else None) }
-{
-    match ClientId::read(name.as_bytes()) {
-        Ok(client) => Some(client),
-        Err(_) => None,
-    }
-}
-
-/// The number that 1 to 20 decimal digits spell, where it is below 2^64.
-fn read_number(text: &[u8]) -> Option<u64>
-    ensures { result ≡ number_of text.now }
-{
-    if text.is_empty() || text.len() > 20 {
-        return None;
-    }
-    let mut value: u64 = 0;
-    for i in 0..text.len() {
-        let digit = text[i];
-        if digit < 48 || digit > 57 {
-            return None;
-        }
-        let next = value as u128 * 10 + (digit - 48) as u128;
-        if next >= 1 << 64 {
-            return None;
-        }
-        value = next as u64;
-    }
-    Some(value)
 }
 
 fn one_word(word: &str) -> Option<Ask>
@@ -66,7 +35,7 @@ fn with_id(word: &str, name: &str) -> Option<Ask>
     if word != "generate" {
         return None;
     }
-    match client_of(name) {
+    match read_client(name) {
         Some(client) => Some(Ask::Generate(client)),
         None => None,
     }
@@ -78,9 +47,9 @@ fn with_key(word: &str, name: &str, digits: &str) -> Option<Ask>
     if word != "destroy" {
         return None;
     }
-    match client_of(name) {
+    match read_client(name) {
         None => None,
-        Some(client) => match read_number(digits.as_bytes()) {
+        Some(client) => match read_number(digits) {
             Some(id) => Some(Ask::Destroy(client, id)),
             None => None,
         },

@@ -2,7 +2,8 @@ use Rattle.std.proofs.Common.{◌≡◌, ℕ, List, [], ◌∷◌, length, get_o
 use Rattle.std.specs.Prelude.{map, codes, nat_eq}
 use Rattle.std.specs.Cmp.Lexicographic.{pointwise, same_text}
 use Rattle.acra_base.specs.Client.{IsClientId}
-use Rattle.lab_core.specs.Words.{IsSession, number_of}
+use Rattle.command_words.specs.Numbers.{number_of}
+use Rattle.lab_core.specs.Words.{IsSession}
 
 -- a list of three
 pub three : {X : Type 0} (xs : List X) (a b c : X) → length xs ≡ 3 → a ≡ get_or xs 0 a → b ≡ get_or xs 1 b → c ≡ get_or xs 2 c → xs ≡ a ∷ b ∷ c ∷ []

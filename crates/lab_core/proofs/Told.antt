@@ -18,7 +18,8 @@ use Rattle.session_model.proofs.Requested.{said_frame}
 use Rattle.session_model.proofs.Faulty.{bad_stays, bad_says_nothing}
 use Rattle.acra_block.specs.Keys.{Key}
 use Rattle.lab_session.specs.Runs.{started, answers}
-use Rattle.lab_core.specs.Words.{IsSession, number_of}
+use Rattle.command_words.specs.Numbers.{number_of}
+use Rattle.lab_core.specs.Words.{IsSession}
 use Rattle.lab_session.specs.ClientKey.{client_drawn}
 use Rattle.lab_session.specs.Session.{Ran, MayBegin, may_begin}
 use Rattle.lab_core.specs.Headline.{WhereTold, replies_to, IsOver, AllAnswered, AnsweredTo, AnsweredCut, AnsweredRead, AnsweredSpent, AnsweredFront, Headline, Due, IsDue, Untouched}

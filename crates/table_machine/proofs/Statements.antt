@@ -1,6 +1,6 @@
 -- Statements on mapped rows.
 use Rattle.std.proofs.Common.{◌≡◌, ℕ, zero, suc, Bool, true, false, cond, List, [], ◌∷◌, ◌++◌, map, length, take, drop, refl, sym, ap, ◌∙◌}
-use Rattle.std.specs.Prelude.{Option, Some, None, option_map, slice_set, slice_index_or, not, filter}
+use Rattle.std.specs.Prelude.{Option, Some, None, slice_set, not}
 use Rattle.std.specs.List.{AllByRecursion}
 use Rattle.std.proofs.lemmas.List.{map-append, length-map}
 use Rattle.sql_tree.specs.declared.condition.Operand.{Operand}
@@ -12,8 +12,8 @@ use Rattle.table_machine.specs.declared.table.ColumnDef.{ColumnDef}
 use Rattle.table_machine.specs.Columns.{column_place, kind_of, listed}
 use Rattle.table_machine.specs.Logic.{is_true}
 use Rattle.table_machine.specs.Sort.{stable_sort}
-use Rattle.table_machine.specs.Machine.{Cells, cell_read, cell_of, before, passes, kept, found, behind, up_to, window, item_cells, select, set_cell, set_named, null_row, new_row, set_all, update}
-use Rattle.table_machine.specs.Carry.{comparisons_of, rewritten, rewritten_of, set_rewritten, Carries, Respects, RespectsAll, KeepsOrder, ReadsAs, ReadsNamed, SetsAs, WhereCarried, SortCarried, SelectCarried, CountCarried, InsertCarried, UpdateCarried, DeleteCarried}
+use Rattle.table_machine.specs.Machine.{Cells, cell_read, cell_of, before, passes, kept, found, behind, up_to, window, item_cells, set_cell, set_named, null_row, new_row, set_all}
+use Rattle.table_machine.specs.Carry.{comparisons_of, rewritten_of, set_rewritten, Carries, Respects, RespectsAll, KeepsOrder, ReadsAs, ReadsNamed, SetsAs, WhereCarried, SortCarried, SelectCarried, CountCarried, InsertCarried, UpdateCarried, DeleteCarried}
 use Rattle.table_machine.proofs.Carried.{at_map, truth-carried}
 use Rattle.table_machine.specs.SortMaps.{stable_sort-map, AreAlike, filter-map, kept_all}
 

@@ -9,12 +9,11 @@ use Rattle.sql_tree.specs.declared.condition.Cond.TheOpen.{Cond-F}
 use Rattle.sql_tree.specs.declared.condition.Cond.TheFolds.{fold-Cond}
 use Rattle.sql_tree.specs.declared.condition.Cond.TheViews.{roll-Cond}
 use Rattle.sql_tree.specs.declared.statement.Items.{Items}
-use Rattle.sql_tree.specs.declared.statement.Items.TheVariants as items
 use Rattle.sql_tree.specs.declared.statement.OrderKey.{OrderKey}
 use Rattle.sql_tree.specs.declared.statement.SetPair.{SetPair}
 use Rattle.table_machine.specs.declared.table.ColumnDef.{ColumnDef}
 use Rattle.table_machine.specs.Columns.{kind_of, listed}
-use Rattle.table_machine.specs.Machine.{Cells, cell_read, compared, passes, kept, before, found, select, insert, update, delete}
+use Rattle.table_machine.specs.Machine.{Cells, cell_read, compared, kept, before, select, insert, update, delete}
 use Rattle.table_machine.specs.Sort.{stable_sort}
 
 abbrev pub concat : {A : Type 0} → List (List A) → List A

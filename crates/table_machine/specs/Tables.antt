@@ -1,5 +1,5 @@
 -- Tables, over any kind of cells, and what a statement gives.
-use Rattle.std.specs.Prelude.{ℕ, ◌+◌, Bool, if◌then◌else◌, List, [], ◌∷◌, map, length, codes, Option, Some, None, unwrap_or, slice_get, slice_set}
+use Rattle.std.specs.Prelude.{ℕ, ◌+◌, Bool, List, [], ◌∷◌, map, length, codes, Option, Some, None, unwrap_or, slice_get, slice_set}
 use Rattle.acra_base.specs.declared.kind.ValueKind.TheVariants as kind
 use Rattle.sql_tree.specs.declared.statement.Item.{Item}
 use Rattle.sql_tree.specs.declared.statement.Items.{Items}

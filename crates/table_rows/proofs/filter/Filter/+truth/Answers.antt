@@ -1,8 +1,6 @@
-use Rattle.std.proofs.Common.{arith, ap, ◌∙◌, sym}
-use Rattle.std.proofs.lemmas.List.{take_all}
+use Rattle.std.proofs.Common.{arith}
 use Rattle.table_rows.specs.Filters as spec
 use Rattle.table_rows.proofs.ThreeValued.{all_of-more, any_of-more}
-use Rattle.table_rows.proofs.Parts.{truth-All, truth-Any}
 use Rattle.table_rows.proofs.filter.Filter.+truth.Goals as goal
 
 pub alls-preserved : goal.alls-preserved

@@ -168,16 +168,7 @@ fn copied(alloc: Global, row: &[Option<Bytes>]) -> Result<Sequence<Option<Bytes>
 {
     let mut copy = Sequence::new(alloc);
     'cells: for cell in row {
-        copy.push(copied_cell(alloc, cell)?)?;
+        copy.push(cell.clone()?)?;
     }
     Ok(copy)
-}
-
-fn copied_cell(alloc: Global, cell: &Option<Bytes>) -> Result<Option<Bytes>, NoMemory>
-    ensures { IfOk result (λ copy. copy ≡ cell.now) }
-{
-    match cell {
-        Some(text) => Ok(Some(Bytes::copied(alloc, text.as_slice())?)),
-        None => Ok(None),
-    }
 }

@@ -11,20 +11,13 @@ use sql_tree::{Item, Items};
 use std::alloc::Global;
 use table_machine::{ColumnDef, OutColumn};
 
-fn copied_name(alloc: Global, name: &Name) -> Result<Name, NoMemory>
-    ensures { IfOk result (λ n. n ≡ name.now) }
-{
-    let bytes = Bytes::copied(alloc, name.as_slice())?;
-    Ok(Name::new(bytes))
-}
-
 /// The label, and the name where there is none.
-fn out_name(alloc: Global, label: &Option<Name>, name: &Name) -> Result<Name, NoMemory>
+fn out_name(label: &Option<Name>, name: &Name) -> Result<Name, NoMemory>
     ensures { IfOk result (λ n. n ≡ unwrap_or label.now name.now) }
 {
     match label {
-        Some(label) => copied_name(alloc, label),
-        None => copied_name(alloc, name),
+        Some(label) => Ok(label.clone()?),
+        None => Ok(name.clone()?),
     }
 }
 
@@ -39,7 +32,7 @@ fn out_column(
     ensures { IfOk result (λ c. c ≡ spec.out_column number columns.now label.now name.now) }
 {
     Ok(OutColumn {
-        name: out_name(alloc, label, name)?,
+        name: out_name(label, name)?,
         table: 16_384 + number as u32,
         attribute: place(columns, name) + 1,
         kind: kind_of(columns, name),
@@ -50,7 +43,7 @@ fn count_name(alloc: Global, label: &Option<Name>) -> Result<Name, NoMemory>
     ensures { IfOk result (λ n. n ≡ unwrap_or label.now (codes "count")) }
 {
     match label {
-        Some(label) => copied_name(alloc, label),
+        Some(label) => Ok(label.clone()?),
         None => {
             let bytes = Bytes::copied(alloc, b"count")?;
             Ok(Name::new(bytes))

@@ -82,22 +82,12 @@ pub(crate) fn set_at(row: &mut Vec<Cell>, place: usize, cell: Cell)
     }
 }
 
-fn copied_cell(alloc: Global, cell: &Cell) -> Result<Cell, NoMemory>
-    ensures { IfOk result (λ c. c ≡ cell.now) }
-{
-    match cell {
-        Cell::Null => Ok(Cell::Null),
-        Cell::Int(number) => Ok(Cell::Int(*number)),
-        Cell::Bytes(bytes) => Ok(Cell::Bytes(Bytes::copied(alloc, bytes.as_slice())?)),
-    }
-}
-
 fn copied_row(alloc: Global, row: &[Cell]) -> Result<Vec<Cell>, NoMemory>
     ensures { IfOk result (λ new. new.items ≡ row.now) }
 {
     let mut new = Vec::new(alloc);
     'cells: for cell in row {
-        new.push(copied_cell(alloc, cell)?)?;
+        new.push(cell.clone()?)?;
     }
     Ok(new)
 }
@@ -108,7 +98,7 @@ pub fn set_row(alloc: Global, row: &[Cell], sets: &[SetCell]) -> Result<Sequence
 {
     let mut new = copied_row(alloc, row)?;
     'sets: for set in sets {
-        let cell = copied_cell(alloc, &set.cell)?;
+        let cell = set.cell.clone()?;
         set_at(&mut new, set.place as usize, cell);
     }
     Ok(Sequence::from_vec(new))

@@ -1,7 +1,7 @@
 use acra_base::Bytes;
 
 /// A cell as it is stored.
-#[derive(Debug, Drop)]
+#[derive(Clone, Debug, Drop)]
 pub enum Cell {
     /// NULL.
     Null,

@@ -87,7 +87,7 @@ fn copied_row(alloc: Global, row: &[Cell]) -> Result<Vec<Cell>, NoMemory>
 {
     let mut new = Vec::new(alloc);
     'cells: for cell in row {
-        new.push(cell.clone()?)?;
+        new.push(cell.copied()?)?;
     }
     Ok(new)
 }
@@ -98,7 +98,7 @@ pub fn set_row(alloc: Global, row: &[Cell], sets: &[SetCell]) -> Result<Sequence
 {
     let mut new = copied_row(alloc, row)?;
     'sets: for set in sets {
-        let cell = set.cell.clone()?;
+        let cell = set.cell.copied()?;
         set_at(&mut new, set.place as usize, cell);
     }
     Ok(Sequence::from_vec(new))

@@ -168,7 +168,16 @@ fn copied(alloc: Global, row: &[Option<Bytes>]) -> Result<Sequence<Option<Bytes>
 {
     let mut copy = Sequence::new(alloc);
     'cells: for cell in row {
-        copy.push(cell.clone()?)?;
+        copy.push(copied_cell(cell)?)?;
     }
     Ok(copy)
+}
+
+fn copied_cell(cell: &Option<Bytes>) -> Result<Option<Bytes>, NoMemory>
+    ensures { IfOk result (λ copy. copy ≡ cell.now) }
+{
+    match cell {
+        Some(text) => Ok(Some(text.clone()?)),
+        None => Ok(None),
+    }
 }

@@ -122,6 +122,15 @@ fn rewritten_rows(
     Ok(new)
 }
 
+fn copied_columns(columns: &Option<Sequence<Name>>) -> Result<Option<Sequence<Name>>, NoMemory>
+    ensures { IfOk result (λ copy. copy ≡ columns.now) }
+{
+    match columns {
+        Some(names) => Ok(Some(names.clone()?)),
+        None => Ok(None),
+    }
+}
+
 /// An INSERT with this cell in the place of its string.
 pub fn rewritten_insert(
     alloc: Global,
@@ -133,7 +142,7 @@ pub fn rewritten_insert(
     ensures { IfOk result (λ new. new ≡ rewritten cell.now (statement.Insert table.now columns.now rows.now)) }
 {
     let table = table.clone()?;
-    let columns = columns.clone()?;
+    let columns = copied_columns(columns)?;
     let rows = rewritten_rows(alloc, rows, cell)?;
     Ok(Statement::Insert {
         table,

@@ -53,6 +53,15 @@ fn described_fields(
     Ok(shown)
 }
 
+fn copied(cell: &Option<Bytes>) -> Result<Option<Bytes>, NoMemory>
+    ensures { IfOk result (λ copy. copy ≡ cell.now) }
+{
+    match cell {
+        Some(text) => Ok(Some(text.clone()?)),
+        None => Ok(None),
+    }
+}
+
 // A protected cell as it is shown: opened, or as it is where it doesn't open.
 fn opened_cell(
     alloc: Global,
@@ -83,7 +92,7 @@ fn opened_cells(
         let cell = if is_protected(protected, place) {
             opened_cell(alloc, view, &cells[place])?
         } else {
-            cells[place].clone()?
+            copied(&cells[place])?
         };
         shown.push(cell)?;
     }

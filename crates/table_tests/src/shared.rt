@@ -85,15 +85,26 @@ fn write_fault(fault: &LabFault, out: &mut Vec<u8>) -> Result<(), Fail> {
     Ok(())
 }
 
+fn write_count(alloc: Global, count: u64, out: &mut Vec<u8>) -> Result<(), Fail> {
+    let digits = count.to_string(alloc)?;
+    out.extend_from_slice(digits.as_bytes())?;
+    Ok(())
+}
+
+fn write_outcome(alloc: Global, outcome: &Outcome, out: &mut Vec<u8>) -> Result<(), Fail> {
+    match outcome {
+        Outcome::Rows { rows, .. } => write_rows(rows.as_slice(), out),
+        Outcome::Count(count) => write_count(alloc, *count, out),
+        Outcome::Fault(fault) => write_fault(fault, out),
+    }
+}
+
 /// What a text gives: the rows, a comma behind each value and a semicolon behind each row, or the count, or the
 /// fault's code and message.
 pub fn told(alloc: Global, tables: &mut Tables, text: &str) -> Result<Vec<u8>, Fail> {
+    let outcome = executed(alloc, tables, text.as_bytes())?;
     let mut out = Vec::new(alloc);
-    match executed(alloc, tables, text.as_bytes())? {
-        Outcome::Rows { rows, .. } => write_rows(rows.as_slice(), &mut out)?,
-        Outcome::Count(count) => out.extend_from_slice(count.to_string(alloc)?.as_bytes())?,
-        Outcome::Fault(fault) => write_fault(&fault, &mut out)?,
-    }
+    write_outcome(alloc, &outcome, &mut out)?;
     Ok(out)
 }
 

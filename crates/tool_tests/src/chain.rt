@@ -139,17 +139,37 @@ fn each_changed_byte_breaks_its_line(rt: HostRuntime) -> Result<(), Fail> {
     Ok(())
 }
 
-fn tell<K: Keeper>(alloc: Global, chain: &mut Chain, keeper: &mut K, told: &Note) -> Option<u64> {
-    chain.append(alloc, keeper, told).ok()
+fn tell(
+    alloc: Global,
+    chain: &mut Chain,
+    keeper: &mut SureKeeper,
+    kind: NoteKind,
+    client: &str,
+    detail: &str,
+) -> Result<Option<u64>, Fail> {
+    let client: Option<ClientId> = ClientId::read(client.as_bytes()).ok();
+    let detail: Detail = Detail::read(detail.as_bytes()).ok_or("no detail")?;
+    let note = Note {
+        kind,
+        client,
+        detail,
+    };
+    Ok(chain.append(alloc, keeper, &note).ok())
 }
 
 /// The log of 10,000 lines. It is empty where one was not appended under its number.
 fn long_log(alloc: Global) -> Result<Vec<u8>, Fail> {
     let mut chain = Chain::new(KEY);
     let mut keeper = SureKeeper::new(alloc);
-    let refusal = note(NoteKind::Refuse, "app", "0A000")?;
     'lines: for number in 1..10_001u64 {
-        let told = tell(alloc, &mut chain, &mut keeper, &refusal);
+        let told = tell(
+            alloc,
+            &mut chain,
+            &mut keeper,
+            NoteKind::Refuse,
+            "app",
+            "0A000",
+        )?;
         if told != Some(number) {
             return Ok(Vec::new(alloc));
         }
@@ -180,8 +200,7 @@ fn the_line_after_ten_thousand(rt: HostRuntime) -> Result<(), Fail> {
         panic!(rt; "not resumed");
     };
     let mut next = SureKeeper::new(alloc);
-    let settled = note(NoteKind::Settle, "", "7")?;
-    let told = tell(alloc, &mut resumed, &mut next, &settled);
+    let told = tell(alloc, &mut resumed, &mut next, NoteKind::Settle, "", "7")?;
     assert_eq!(rt; told, Some(10_001));
     assert_eq!(rt; next.kept().len(), 1);
     'kept: for piece in next.kept() {

@@ -1,4 +1,4 @@
-use Rattle.std.proofs.Common.{List, ℕ, ◌+◌, ◌≤◌, length, arith, subst}
+use Rattle.std.proofs.Common.{List, ℕ, ◌+◌, ◌≤◌, length, arith, subst, ◌∙◌}
 use Rattle.std.proofs.lemmas.List.{length-drop}
 use Rattle.acra_devices.specs.Known.{Grew}
 use Rattle.acra_devices.specs.Grows.{grew_then, take_then}
@@ -12,5 +12,5 @@ loop-done-preserved g c =
     record {
       within = most;
       written = subst (λ (bs : List ℕ). Grew (g.K.Sink.held c.args.sink.now) (g.K.Sink.held c.write.new.self) bs) (take_then c.loop-done.done n c.args.bytes.now) (grew_then _ _ _ _ _ inv.written c.in-Ok.ensures.bytes);
-      later = omega (arith, c.write.ensures.cause.later);
+      stayed = c.in-Ok.ensures.cause.stayed ∙ inv.stayed;
     }

@@ -1,5 +1,6 @@
 ghost use Rattle.std.specs.Prelude.{◌≡◌, ℕ, ◌+◌, ◌++◌, List, length, OnOk, OnErr, IfOk, Option, Some};
 ghost use Rattle.acra_crypto.specs.Seal.{Unseals};
+ghost use Rattle.acra_crypto.specs.Bytes.{AreBytes};
 
 use acra_base::NoMemory;
 use std::alloc::Global;
@@ -46,6 +47,9 @@ pub trait Aead {
 
     /// What opens to a value is that value's seal.
     ghost only: { (c : Self) (k n e s p : List ℕ) → opened c k n e s ≡ Some p → s ≡ sealed c k n e p };
+
+    /// What a seal of bytes opens to, under a key and a nonce of bytes, is bytes.
+    ghost in_bytes: { (c : Self) (k n e s p : List ℕ) → AreBytes k → AreBytes n → AreBytes s → opened c k n e s ≡ Some p → AreBytes p };
 
     /// A seal is 16 bytes longer than its value.
     ghost longer: { (c : Self) (k n e p : List ℕ) → length (sealed c k n e p) ≡ length p + 16 };

@@ -7,6 +7,7 @@ ghost use Rattle.acra_crypto.specs.Aes.{aes256, key_schedule, encrypted};
 ghost use Rattle.acra_crypto.specs.Words.{bytes_of};
 ghost use Rattle.acra_crypto.specs.Gcm.{aes256_gcm, aes256_gcm_opened, gctr, tag};
 ghost use Rattle.acra_crypto.specs.Sealed.{gcm_only, gcm_opens, length-gcm_sealed};
+ghost use Rattle.acra_crypto.specs.Bytes.{gcm_bytes};
 
 use crate::aead::Aead;
 use crate::aes::RoundKeys;
@@ -59,6 +60,8 @@ impl Aead for Aes256Gcm {
     ghost opens = { λ _ key nonce extra plain. gcm_opens (aes256 key) nonce extra plain };
 
     ghost only = { λ _ key nonce extra text plain h. gcm_only (aes256 key) nonce extra text plain h };
+
+    ghost in_bytes = { λ _ key nonce extra text plain g n h. gcm_bytes key nonce extra text plain g h };
 
     ghost longer = { λ _ key nonce extra plain. length-gcm_sealed (aes256 key) nonce extra plain };
 

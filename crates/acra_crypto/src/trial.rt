@@ -1,5 +1,6 @@
 ghost use Rattle.std.specs.Prelude.{◌≡◌, ℕ, ◌+◌, ◌++◌, List, length, OnOk, OnErr, IfOk};
 ghost use Rattle.acra_crypto.specs.Trial.{masked, trial_seal, trial_open, trial_opens, trial_only, trial_longer};
+ghost use Rattle.acra_crypto.specs.Bytes.{trial_bytes};
 
 use crate::aead::Aead;
 use acra_base::NoMemory;
@@ -35,6 +36,8 @@ impl Aead for TrialAead {
     ghost opens = { λ _ key nonce _ p. trial_opens key nonce p };
 
     ghost only = { λ _ key nonce _ s p h. trial_only key nonce s p h };
+
+    ghost in_bytes = { λ _ key nonce _ s p g n h. trial_bytes key nonce s p g n h };
 
     ghost longer = { λ _ key nonce _ p. trial_longer key nonce p };
 

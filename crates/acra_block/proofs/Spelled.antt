@@ -3,6 +3,7 @@ use Rattle.std.proofs.Common.{◌≡◌, ℕ, ◌+◌, List, [], ◌++◌, lengt
 use Rattle.std.specs.Option.{option_and_then}
 use Rattle.std.proofs.lemmas.Option.{option_and_then_some}
 use Rattle.std.proofs.lemmas.List.{take_at, drop_at, length-append, length-take, length-drop, drop-drop, take-append-drop, append-nil}
+use Rattle.acra_crypto.specs.Bytes.{AreBytes, bytes_append, bytes_take, bytes_drop}
 use Rattle.acra_block.specs.declared.container.Container.{Container}
 use Rattle.acra_block.specs.Containers.{Sealing, Opening, header, data_key, key_nonce, value_nonce, container, IsContainer, opened_key, opened_value, opened_container, IsSpelling}
 
@@ -63,10 +64,13 @@ module _ (sealed : Sealing) (opened : Opening) (opens : (k n e p : List ℕ) →
       ap (λ (n : List ℕ). opened (data_key drawn) n owner (drop 96 bytes)) p.second ∙ ap (λ (s : List ℕ). opened (data_key drawn) (value_nonce drawn) owner s) p.last ∙ opens (data_key drawn) (value_nonce drawn) owner plain in
       ap (λ (o : Option (List ℕ)). option_and_then (opened_value opened owner bytes) o) key_opens ∙ value_opens
 
+module _ (sealed : Sealing) (opened : Opening) (opens : (k n e p : List ℕ) → opened k n e (sealed k n e p) ≡ Some p)
+    (only : (k n e s p : List ℕ) → opened k n e s ≡ Some p → s ≡ sealed k n e p) (longer : (k n e p : List ℕ) → length (sealed k n e p) ≡ length p + 16)
+    (within : (k n e s p : List ℕ) → AreBytes k → AreBytes n → AreBytes s → opened k n e s ≡ Some p → AreBytes p) where
   -- what a container is made of, by what its two seals open to
-  spelled_by : (owner : List ℕ) (key bytes plain inner : List ℕ) (c : Container) → IsContainer bytes c → opened_key opened owner key bytes ≡ Some inner → opened_value opened owner bytes inner ≡ Some plain
+  spelled_by : (owner : List ℕ) (key bytes plain inner : List ℕ) (c : Container) → AreBytes key → AreBytes bytes → IsContainer bytes c → opened_key opened owner key bytes ≡ Some inner → opened_value opened owner bytes inner ≡ Some plain
       → (length plain ≡ c.length) × IsSpelling sealed owner c.id key bytes plain
-  spelled_by owner key bytes plain inner c is ke ve =
+  spelled_by owner key bytes plain inner c in_key in_bytes is ke ve =
       let first = take 12 (drop 24 bytes) in
       let second = take 12 (drop 84 bytes) in
       let wrapped : take 48 (drop 36 bytes) ≡ sealed key first owner inner = only key first owner (take 48 (drop 36 bytes)) inner ke in
@@ -76,6 +80,7 @@ module _ (sealed : Sealing) (opened : Opening) (opens : (k n e p : List ℕ) →
       let lw : length (take 48 (drop 36 bytes)) ≡ 48 = length-take 48 (drop 36 bytes) ∙ omega (arith, is.long, length-drop 36 bytes) in
       let li : length inner ≡ 32 = omega (arith, lw, ap length wrapped, longer key first owner inner) in
       let lp : length plain ≡ c.length = omega (arith, is.long, length-drop 96 bytes, ap length value, longer inner second owner plain) in
+      let bi : AreBytes inner = within key first owner (take 48 (drop 36 bytes)) inner in_key (bytes_take 12 (drop 24 bytes) (bytes_drop 24 bytes in_bytes)) (bytes_take 48 (drop 36 bytes) (bytes_drop 36 bytes in_bytes)) ke in
       let drawn = inner ++ (first ++ second) in
       let dk : data_key drawn ≡ inner = take_at inner (first ++ second) 32 li in
       let behind : drop 32 drawn ≡ first ++ second = drop_at inner (first ++ second) 32 li in
@@ -86,6 +91,7 @@ module _ (sealed : Sealing) (opened : Opening) (opens : (k n e p : List ℕ) →
         record {
           drawn = drawn;
           full = omega (arith, length-append inner (first ++ second), length-append first second, li, lf, ls);
+          in_bytes = bytes_append inner (first ++ second) bi (bytes_append first second (bytes_take 12 (drop 24 bytes) (bytes_drop 24 bytes in_bytes)) (bytes_take 12 (drop 84 bytes) (bytes_drop 84 bytes in_bytes)));
           made = five_parts bytes ∙ same (take 24 bytes) first (take 48 (drop 36 bytes)) second (drop 96 bytes) (header c.id (length plain)) (key_nonce drawn) (sealed key (key_nonce drawn) owner (data_key drawn)) (value_nonce drawn) (sealed (data_key drawn) (value_nonce drawn) owner plain)
               (is.head ∙ ap (header c.id) (sym lp)) (sym kn) (wrapped ∙ ap (λ (xs : List ℕ). sealed key xs owner inner) (sym kn) ∙ ap (λ (xs : List ℕ). sealed key (key_nonce drawn) owner xs) (sym dk)) (sym vn)
               (value ∙ ap (λ (xs : List ℕ). sealed xs second owner plain) (sym dk) ∙ ap (λ (xs : List ℕ). sealed (data_key drawn) xs owner plain) (sym vn));
@@ -98,9 +104,9 @@ module _ (sealed : Sealing) (opened : Opening) (opens : (k n e p : List ℕ) →
       same : (h a b c d h' a' b' c' d' : List ℕ) → h ≡ h' → a ≡ a' → b ≡ b' → c ≡ c' → d ≡ d' → h ++ a ++ b ++ c ++ d ≡ h' ++ a' ++ b' ++ c' ++ d'
       same h a b c d h' a' b' c' d' e1 e2 e3 e4 e5 = rw (e1, e2, e3, e4, e5) refl
 
-  pub plain_spelled : (owner key bytes plain : List ℕ) (c : Container) → IsContainer bytes c → opened_container opened owner key bytes ≡ Some plain → (length plain ≡ c.length) × IsSpelling sealed owner c.id key bytes plain
-  plain_spelled owner key bytes plain c is e =
-      option_and_then_some (opened_value opened owner bytes) (opened_key opened owner key bytes) plain e (λ inner ke ve. spelled_by owner key bytes plain inner c is ke ve)
+  pub plain_spelled : (owner key bytes plain : List ℕ) (c : Container) → AreBytes key → AreBytes bytes → IsContainer bytes c → opened_container opened owner key bytes ≡ Some plain → (length plain ≡ c.length) × IsSpelling sealed owner c.id key bytes plain
+  plain_spelled owner key bytes plain c in_key in_bytes is e =
+      option_and_then_some (opened_value opened owner bytes) (opened_key opened owner key bytes) plain e (λ inner ke ve. spelled_by owner key bytes plain inner c in_key in_bytes is ke ve)
 
   pub spelled_plain : (owner key bytes plain : List ℕ) (c : Container) → (length plain ≡ c.length) × IsSpelling sealed owner c.id key bytes plain → opened_container opened owner key bytes ≡ Some plain
-  spelled_plain owner key bytes plain c h = container_opens owner c.id key h.1.drawn plain bytes h.1.full h.1.made
+  spelled_plain owner key bytes plain c h = container_opens sealed opened opens only longer owner c.id key h.1.drawn plain bytes h.1.full h.1.made

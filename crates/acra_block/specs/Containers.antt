@@ -4,6 +4,7 @@ use Rattle.std.specs.Prelude.{ℕ, ◌≡◌, Bool, ◌+◌, ◌-◌, ◌^◌, �
 use Rattle.std.specs.Option.{option_and_then}
 use Rattle.std.specs.Cmp.Lexicographic.{pointwise}
 use Rattle.std.specs.Int.{w16, w64, to_le_bytes, from_le_bytes}
+use Rattle.acra_crypto.specs.Bytes.{AreBytes}
 use Rattle.acra_block.specs.declared.container.Container.{Container}
 
 -- the seal of a value, by key, nonce, extra and value
@@ -75,4 +76,5 @@ opened_container opened owner key bytes = option_and_then (opened_value opened o
 pub record IsSpelling (sealed : Sealing) (owner : List ℕ) (id : ℕ) (key bytes plain : List ℕ) : Type 0 where
   pub drawn : List ℕ
   pub full : length drawn ≡ 56
+  pub in_bytes : AreBytes drawn
   pub made : bytes ≡ container sealed owner id key drawn plain

@@ -1,4 +1,5 @@
 ghost use Rattle.std.specs.Prelude.{◌≡◌, ◌≤◌, ◌<◌, ◌^◌, ◌↔◌, ℕ, List, length, Some, slice_index};
+ghost use Rattle.acra_crypto.specs.Bytes.{AreBytes};
 ghost use Rattle.acra_block.specs.declared.container.Container.{Container};
 ghost use Rattle.acra_block.specs.declared.kind.CellKind.{CellKind};
 ghost use Rattle.acra_block.specs.declared.keys.KeyView.{KeyView};
@@ -14,9 +15,10 @@ pub fn one_form()
     ensures form { (bytes : List ℕ) (c : Container) → ((i : ℕ) → slice_index bytes i < 256) → (container_of bytes ≡ Some c) ↔ IsContainer bytes c }
 {}
 
-/// A container opens to a value exactly where it is the container of that value, with some drawn bytes.
+/// Bytes that are a container open to a value exactly where they are the container of that value, with some 56
+/// drawn bytes.
 pub fn plain_is_spelled<A: Aead>(_aead: &A)
-    ensures opens { (owner key bytes plain : List ℕ) (c : Container) → IsContainer bytes c
+    ensures opens { (owner key bytes plain : List ℕ) (c : Container) → AreBytes key → AreBytes bytes → IsContainer bytes c
         → (opened_container (A.opened _aead.now) owner key bytes ≡ Some plain) ↔ ((length plain ≡ c.length) × IsSpelling (A.sealed _aead.now) owner c.id key bytes plain) }
 {}
 

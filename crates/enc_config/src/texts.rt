@@ -5,7 +5,7 @@ ghost use Rattle.serde_json.specs.Data.{no_members};
 ghost use Rattle.serde_json.specs.Find.{as_object};
 ghost use Rattle.enc_config.specs.Members.{all_members, items_at, members_at};
 ghost use Rattle.std.specs.List.{list_all};
-ghost use Rattle.enc_config.specs.Texts.{is_text_member, is_flag_member, is_entry_member, is_entry, entry_text, is_text_array, is_text_object, is_schema_member, is_schema, type_texts, schema_text, is_object, is_lone, is_top, top, schemas_of};
+ghost use Rattle.enc_config.specs.Texts.{is_sealing_member, is_showing_member, is_text_member, is_flag_member, is_entry_member, is_entry, entry_text, is_text_array, is_text_object, is_schema_member, is_schema, type_texts, schema_text, is_object, is_lone, is_top, top, schemas_of};
 
 use crate::defaults::default_plain;
 use crate::members::{
@@ -57,18 +57,29 @@ pub(crate) struct SchemaText {
     pub(crate) key: Option<Bytes>,
 }
 
-fn is_text_member(name: &str) -> bool
-    ensures { result ≡ is_text_member name.now }
+fn is_sealing_member(name: &str) -> bool
+    ensures { result ≡ is_sealing_member name.now }
 {
     name == "column"
         || name == "client_id"
         || name == "data_type"
-        || name == "masking"
-        || name == "plaintext_side"
         || name == "token_type"
+        || name == "crypto_envelope"
+}
+
+fn is_showing_member(name: &str) -> bool
+    ensures { result ≡ is_showing_member name.now }
+{
+    name == "masking"
+        || name == "plaintext_side"
         || name == "response_on_fail"
         || name == "default_data_value"
-        || name == "crypto_envelope"
+}
+
+fn is_text_member(name: &str) -> bool
+    ensures { result ≡ is_text_member name.now }
+{
+    is_sealing_member(name) || is_showing_member(name)
 }
 
 fn is_flag_member(name: &str) -> bool

@@ -3,8 +3,9 @@
 ghost use Rattle.std.specs.Prelude.{IfOk};
 ghost use Rattle.table_store.specs.Shelves.{IsTable};
 
-use crate::shared::{alone, are_told, column};
+use crate::shared::are_told;
 use acra_base::{Bytes, Name, Sequence, ValueKind};
+use outcome_text::{alone, column};
 use sql_tree::{Item, Items};
 use std::alloc::Global;
 use std::test::Fail;

@@ -6,10 +6,6 @@ mod binding;
 #[cfg(test)]
 mod faults;
 #[cfg(test)]
-mod plain;
-#[cfg(test)]
-mod random;
-#[cfg(test)]
 mod replies;
 #[cfg(test)]
 mod shared;

@@ -3,9 +3,9 @@
 ghost use Rattle.std.specs.Prelude.{◌<◌, length, IfOk};
 ghost use Rattle.table_store.specs.Shelves.{IsTable};
 
-use crate::shared::{alone, column};
 use acra_base::{Bytes, Name, NoMemory, Sequence, ValueKind};
 use lab_backend::LabBackend;
+use outcome_text::{alone, column};
 use std::alloc::Global;
 use std::test::Fail;
 use table_machine::TableDef;

@@ -6,9 +6,9 @@ ghost use Rattle.table_store.specs.Shelves.{IsTable};
 use crate::plain::{
     Column, Condition, Given, Key, Plan, Query, Row, Sense, Set, Shape, TEXTS, Test, Value, run,
 };
-use crate::shared::{alone, column, told};
 use acra_base::{Bytes, Name, Sequence, ValueKind};
 use acra_devices::SureRandom;
+use outcome_text::{alone, column, told};
 use sql_tree::Op;
 use std::alloc::Global;
 use std::process::Abort;

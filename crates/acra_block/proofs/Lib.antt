@@ -3,3 +3,4 @@ mod Pieces
 mod Formed
 pub mod Spelled
 pub mod Sealed
+mod Placed

@@ -14,9 +14,12 @@ use Rattle.acra_block.specs.declared.kind.CellKind.{CellKind}
 use Rattle.acra_block.specs.declared.kind.CellKind.TheVariants as kinds
 use Rattle.acra_block.specs.declared.keys.KeyView.{KeyView}
 use Rattle.acra_block.specs.declared.opening.Opened.TheVariants as answers
+use Rattle.acra_block.specs.declared.container.Container.{Container}
+use Rattle.acra_block.specs.declared.place.CellPlace.{CellPlace}
 use Rattle.acra_block.specs.Keys.{Key, key_of}
+use Rattle.acra_block.specs.Places.{extra_of}
 use Rattle.acra_block.specs.Containers.{Sealing, Opening, container, container_of, opened_container}
-use Rattle.acra_block.specs.Cells.{cut_list, cut, masked_head, IsCuttable, cell, Parts, masked_parts, of_side, cell_parts, joined, rest_opened, key_found, container_found, parts_found, opened_cell}
+use Rattle.acra_block.specs.Cells.{cut_list, cut, masked_head, IsCuttable, placed_container, cell, Parts, masked_parts, of_side, cell_parts, joined, rest_opened, key_found, container_found, parts_found, opened_cell}
 use Rattle.acra_block.proofs.Formed.{is_form}
 use Rattle.acra_block.proofs.Spelled.{sealed_parts, container_opens}
 
@@ -87,45 +90,52 @@ hmac_length key text = length-sha256 (outer_key key ++ sha256 (inner_key key ++ 
 
 module _ (sealed : Sealing) (opened : Opening) (opens : (k n e p : List ℕ) → opened k n e (sealed k n e p) ≡ Some p)
     (only : (k n e s p : List ℕ) → opened k n e s ≡ Some p → s ≡ sealed k n e p) (longer : (k n e p : List ℕ) → length (sealed k n e p) ≡ length p + 16) where
-  -- a container tells its id and its length
-  told : (owner : List ℕ) (id : ℕ) (key drawn plain : List ℕ) → length drawn ≡ 56 → 1 ≤ id → id < 2 ^ 64 → length plain ≤ 2 ^ 18 → container_of (container sealed owner id key drawn plain) ≡ Some (record { id = id; length = length plain })
-  told owner id key drawn plain full least fits short =
-      let bytes = container sealed owner id key drawn plain in
-      let p = sealed_parts sealed opened opens only longer owner id key drawn plain bytes full refl in
-      is_form bytes (record { id = id; length = length plain }) (
+  -- a container tells its id, its version and its length
+  told : (extra : List ℕ) (version id : ℕ) (key drawn plain : List ℕ) → 1 ≤ version → version ≤ 2 → length drawn ≡ 56 → 1 ≤ id → id < 2 ^ 64 → length plain ≤ 2 ^ 18
+      → container_of (container sealed extra version id key drawn plain) ≡ Some (record { id = id; version = version; length = length plain })
+  told extra version id key drawn plain first last full least fits short =
+      let bytes = container sealed extra version id key drawn plain in
+      let p = sealed_parts sealed opened opens only longer extra version id key drawn plain bytes full refl in
+      is_form bytes (record { id = id; version = version; length = length plain }) (
       record {
         least = least;
         fits = fits;
+        first = first;
+        last = last;
         short = short;
-        long = omega (arith, p.long, longer (take 32 drawn) (take 12 (drop 44 drawn)) owner plain);
+        long = omega (arith, p.long, longer (take 32 drawn) (take 12 (drop 44 drawn)) extra plain);
         head = p.head;
       }
       )
 
-  -- the parts of a cell open to its value
-  parts_open : (k : Key) (view : KeyView) (drawn rest : List ℕ) (left : Bool) (plain : List ℕ) → length rest ≤ 2 ^ 18 → length drawn ≡ 56 → 1 ≤ k.id → k.id < 2 ^ 64 → k.id < view.next_id → view.who ≡ k.owner
-      → key_of k.id view.keys ≡ Some k.key
-      → parts_found opened view (Some (record { left = left; plain = plain; sealed = container sealed k.owner k.id k.key drawn rest })) ≡ (answers.Plain, joined left plain rest)
-  parts_open k view drawn rest left plain short full least fits below who found =
-      let bytes = container sealed k.owner k.id k.key drawn rest in
-      let parts : Parts = record { left = left; plain = plain; sealed = bytes } in
-      let opens_to : opened_container opened view.who k.key bytes ≡ Some rest = ap (λ (w : List ℕ). opened_container opened w k.key bytes) who ∙ container_opens sealed opened opens only longer k.owner k.id k.key drawn rest bytes full refl in
-      ap (container_found opened view parts) (told k.owner k.id k.key drawn rest full least fits short)
-      ∙ ap (λ (b : Bool). if b then key_found opened view.who parts (key_of k.id view.keys) else (answers.UnknownKey k.id, [])) (lt-ltb k.id view.next_id below)
-      ∙ ap (key_found opened view.who parts) found
-      ∙ ap (rest_opened parts) opens_to
+  module _ (place : CellPlace) (version : ℕ) (first : 1 ≤ version) (last : version ≤ 2) where
+    -- the parts of a cell open to its value
+    parts_open : (k : Key) (view : KeyView) (drawn rest : List ℕ) (left : Bool) (plain : List ℕ) → length rest ≤ 2 ^ 18 → length drawn ≡ 56 → 1 ≤ k.id → k.id < 2 ^ 64 → k.id < view.next_id → view.who ≡ k.owner
+        → key_of k.id view.keys ≡ Some k.key
+        → parts_found opened place view (Some (record { left = left; plain = plain; sealed = placed_container sealed place version k drawn rest })) ≡ (answers.Plain, joined left plain rest)
+    parts_open k view drawn rest left plain short full least fits below who found =
+        let extra = extra_of version place k.owner in
+        let bytes = container sealed extra version k.id k.key drawn rest in
+        let parts : Parts = record { left = left; plain = plain; sealed = bytes } in
+        let c : Container = record { id = k.id; version = version; length = length rest } in
+        let opens_to : opened_container opened (extra_of version place view.who) k.key bytes ≡ Some rest =
+        ap (λ (w : List ℕ). opened_container opened (extra_of version place w) k.key bytes) who ∙ container_opens sealed opened opens only longer extra version k.id k.key drawn rest bytes full refl in
+        ap (container_found opened place view parts) (told extra version k.id k.key drawn rest first last full least fits short)
+        ∙ ap (λ (b : Bool). if b then key_found opened place view.who c parts (key_of k.id view.keys) else (answers.UnknownKey k.id, [])) (lt-ltb k.id view.next_id below)
+        ∙ ap (key_found opened place view.who c parts) found
+        ∙ ap (rest_opened parts) opens_to
 
-  pub cell_opens : (kind : CellKind) (k : Key) (view : KeyView) (drawn plain : List ℕ) → length plain ≤ 2 ^ 18 → IsCuttable kind plain → length drawn ≡ 56 → 1 ≤ k.id → k.id < 2 ^ 64 → k.id < view.next_id → view.who ≡ k.owner
-      → key_of k.id view.keys ≡ Some k.key → opened_cell opened kind view (cell sealed kind k drawn plain) ≡ (answers.Plain, plain)
-  cell_opens kinds.Sealed k view drawn plain short is full least fits below who found = parts_open k view drawn plain true [] short full least fits below who found
-  cell_opens kinds.Searchable k view drawn plain short is full least fits below who found =
-      ap (parts_found opened view) (searched_again (hmac_sha256 k.search plain) (container sealed k.owner k.id k.key drawn plain) (hmac_length k.search plain))
-      ∙ parts_open k view drawn plain true [] short full least fits below who found
-  cell_opens (kinds.Masked left n by_characters) k view drawn plain short is full least fits below who found =
-      let parts = cut left n by_characters plain in
-      let whole : joined left parts.0 parts.1 ≡ plain = cut_joined left n by_characters plain is in
-      let lengths : length parts.0 + length parts.1 ≡ length plain = sym (joined_length left parts.0 parts.1) ∙ ap length whole in
-      let bytes = container sealed k.owner k.id k.key drawn parts.1 in
-      let seen = masked_again left parts.0 bytes (omega (arith, lengths, short)) in
-      ap (parts_found opened view) (ap (λ (o : Option Parts). option_and_then (of_side left) o) seen ∙ same_side left parts.0 bytes)
-      ∙ parts_open k view drawn parts.1 left parts.0 (omega (arith, lengths, short)) full least fits below who found ∙ ap (λ (p : List ℕ). (answers.Plain, p)) whole
+    pub cell_opens : (kind : CellKind) (k : Key) (view : KeyView) (drawn plain : List ℕ) → length plain ≤ 2 ^ 18 → IsCuttable kind plain → length drawn ≡ 56 → 1 ≤ k.id → k.id < 2 ^ 64 → k.id < view.next_id → view.who ≡ k.owner
+        → key_of k.id view.keys ≡ Some k.key → opened_cell opened kind place view (cell sealed kind place version k drawn plain) ≡ (answers.Plain, plain)
+    cell_opens kinds.Sealed k view drawn plain short is full least fits below who found = parts_open k view drawn plain true [] short full least fits below who found
+    cell_opens kinds.Searchable k view drawn plain short is full least fits below who found =
+        ap (parts_found opened place view) (searched_again (hmac_sha256 k.search plain) (placed_container sealed place version k drawn plain) (hmac_length k.search plain))
+        ∙ parts_open k view drawn plain true [] short full least fits below who found
+    cell_opens (kinds.Masked left n by_characters) k view drawn plain short is full least fits below who found =
+        let parts = cut left n by_characters plain in
+        let whole : joined left parts.0 parts.1 ≡ plain = cut_joined left n by_characters plain is in
+        let lengths : length parts.0 + length parts.1 ≡ length plain = sym (joined_length left parts.0 parts.1) ∙ ap length whole in
+        let bytes = placed_container sealed place version k drawn parts.1 in
+        let seen = masked_again left parts.0 bytes (omega (arith, lengths, short)) in
+        ap (parts_found opened place view) (ap (λ (o : Option Parts). option_and_then (of_side left) o) seen ∙ same_side left parts.0 bytes)
+        ∙ parts_open k view drawn parts.1 left parts.0 (omega (arith, lengths, short)) full least fits below who found ∙ ap (λ (p : List ℕ). (answers.Plain, p)) whole

@@ -7,8 +7,8 @@ use Rattle.acra_crypto.specs.Bytes.{AreBytes, bytes_append, bytes_take, bytes_dr
 use Rattle.acra_block.specs.declared.container.Container.{Container}
 use Rattle.acra_block.specs.Containers.{Sealing, Opening, header, data_key, key_nonce, value_nonce, container, IsContainer, opened_key, opened_value, opened_container, IsSpelling}
 
-header_length : (id n : ℕ) → length (header id n) ≡ 24
-header_length id n = refl
+header_length : (version id n : ℕ) → length (header version id n) ≡ 24
+header_length version id n = refl
 
 -- the five parts of a container, by place
 pub record Parts (bytes h a b c d : List ℕ) : Type 0 where
@@ -47,40 +47,40 @@ five_parts bytes =
 
 module _ (sealed : Sealing) (opened : Opening) (opens : (k n e p : List ℕ) → opened k n e (sealed k n e p) ≡ Some p)
     (only : (k n e s p : List ℕ) → opened k n e s ≡ Some p → s ≡ sealed k n e p) (longer : (k n e p : List ℕ) → length (sealed k n e p) ≡ length p + 16) where
-  pub sealed_parts : (owner : List ℕ) (id : ℕ) (key drawn plain bytes : List ℕ) → length drawn ≡ 56 → bytes ≡ container sealed owner id key drawn plain
-      → Parts bytes (header id (length plain)) (key_nonce drawn) (sealed key (key_nonce drawn) owner (data_key drawn)) (value_nonce drawn) (sealed (data_key drawn) (value_nonce drawn) owner plain)
-  sealed_parts owner id key drawn plain bytes full e =
+  pub sealed_parts : (extra : List ℕ) (version id : ℕ) (key drawn plain bytes : List ℕ) → length drawn ≡ 56 → bytes ≡ container sealed extra version id key drawn plain
+      → Parts bytes (header version id (length plain)) (key_nonce drawn) (sealed key (key_nonce drawn) extra (data_key drawn)) (value_nonce drawn) (sealed (data_key drawn) (value_nonce drawn) extra plain)
+  sealed_parts extra version id key drawn plain bytes full e =
       let lk : length (data_key drawn) ≡ 32 = length-take 32 drawn ∙ omega (arith, full) in
       let lf : length (key_nonce drawn) ≡ 12 = length-take 12 (drop 32 drawn) ∙ omega (arith, full, length-drop 32 drawn) in
       let ls : length (value_nonce drawn) ≡ 12 = length-take 12 (drop 44 drawn) ∙ omega (arith, full, length-drop 44 drawn) in
-      parts_of bytes _ _ _ _ _ e (header_length id (length plain)) lf (longer key (key_nonce drawn) owner (data_key drawn) ∙ omega (arith, lk)) ls
+      parts_of bytes _ _ _ _ _ e (header_length version id (length plain)) lf (longer key (key_nonce drawn) extra (data_key drawn) ∙ omega (arith, lk)) ls
 
-  pub container_opens : (owner : List ℕ) (id : ℕ) (key drawn plain bytes : List ℕ) → length drawn ≡ 56 → bytes ≡ container sealed owner id key drawn plain → opened_container opened owner key bytes ≡ Some plain
-  container_opens owner id key drawn plain bytes full e =
-      let p = sealed_parts owner id key drawn plain bytes full e in
-      let key_opens : opened_key opened owner key bytes ≡ Some (data_key drawn) =
-      ap (λ (n : List ℕ). opened key n owner (take 48 (drop 36 bytes))) p.first ∙ ap (λ (s : List ℕ). opened key (key_nonce drawn) owner s) p.wrapped ∙ opens key (key_nonce drawn) owner (data_key drawn) in
-      let value_opens : opened_value opened owner bytes (data_key drawn) ≡ Some plain =
-      ap (λ (n : List ℕ). opened (data_key drawn) n owner (drop 96 bytes)) p.second ∙ ap (λ (s : List ℕ). opened (data_key drawn) (value_nonce drawn) owner s) p.last ∙ opens (data_key drawn) (value_nonce drawn) owner plain in
-      ap (λ (o : Option (List ℕ)). option_and_then (opened_value opened owner bytes) o) key_opens ∙ value_opens
+  pub container_opens : (extra : List ℕ) (version id : ℕ) (key drawn plain bytes : List ℕ) → length drawn ≡ 56 → bytes ≡ container sealed extra version id key drawn plain → opened_container opened extra key bytes ≡ Some plain
+  container_opens extra version id key drawn plain bytes full e =
+      let p = sealed_parts extra version id key drawn plain bytes full e in
+      let key_opens : opened_key opened extra key bytes ≡ Some (data_key drawn) =
+      ap (λ (n : List ℕ). opened key n extra (take 48 (drop 36 bytes))) p.first ∙ ap (λ (s : List ℕ). opened key (key_nonce drawn) extra s) p.wrapped ∙ opens key (key_nonce drawn) extra (data_key drawn) in
+      let value_opens : opened_value opened extra bytes (data_key drawn) ≡ Some plain =
+      ap (λ (n : List ℕ). opened (data_key drawn) n extra (drop 96 bytes)) p.second ∙ ap (λ (s : List ℕ). opened (data_key drawn) (value_nonce drawn) extra s) p.last ∙ opens (data_key drawn) (value_nonce drawn) extra plain in
+      ap (λ (o : Option (List ℕ)). option_and_then (opened_value opened extra bytes) o) key_opens ∙ value_opens
 
 module _ (sealed : Sealing) (opened : Opening) (opens : (k n e p : List ℕ) → opened k n e (sealed k n e p) ≡ Some p)
     (only : (k n e s p : List ℕ) → opened k n e s ≡ Some p → s ≡ sealed k n e p) (longer : (k n e p : List ℕ) → length (sealed k n e p) ≡ length p + 16)
     (within : (k n e s p : List ℕ) → AreBytes k → AreBytes n → AreBytes s → opened k n e s ≡ Some p → AreBytes p) where
   -- what a container is made of, by what its two seals open to
-  spelled_by : (owner : List ℕ) (key bytes plain inner : List ℕ) (c : Container) → AreBytes key → AreBytes bytes → IsContainer bytes c → opened_key opened owner key bytes ≡ Some inner → opened_value opened owner bytes inner ≡ Some plain
-      → (length plain ≡ c.length) × IsSpelling sealed owner c.id key bytes plain
-  spelled_by owner key bytes plain inner c in_key in_bytes is ke ve =
+  spelled_by : (extra : List ℕ) (key bytes plain inner : List ℕ) (c : Container) → AreBytes key → AreBytes bytes → IsContainer bytes c → opened_key opened extra key bytes ≡ Some inner → opened_value opened extra bytes inner ≡ Some plain
+      → (length plain ≡ c.length) × IsSpelling sealed extra c.version c.id key bytes plain
+  spelled_by extra key bytes plain inner c in_key in_bytes is ke ve =
       let first = take 12 (drop 24 bytes) in
       let second = take 12 (drop 84 bytes) in
-      let wrapped : take 48 (drop 36 bytes) ≡ sealed key first owner inner = only key first owner (take 48 (drop 36 bytes)) inner ke in
-      let value : drop 96 bytes ≡ sealed inner second owner plain = only inner second owner (drop 96 bytes) plain ve in
+      let wrapped : take 48 (drop 36 bytes) ≡ sealed key first extra inner = only key first extra (take 48 (drop 36 bytes)) inner ke in
+      let value : drop 96 bytes ≡ sealed inner second extra plain = only inner second extra (drop 96 bytes) plain ve in
       let lf : length first ≡ 12 = length-take 12 (drop 24 bytes) ∙ omega (arith, is.long, length-drop 24 bytes) in
       let ls : length second ≡ 12 = length-take 12 (drop 84 bytes) ∙ omega (arith, is.long, length-drop 84 bytes) in
       let lw : length (take 48 (drop 36 bytes)) ≡ 48 = length-take 48 (drop 36 bytes) ∙ omega (arith, is.long, length-drop 36 bytes) in
-      let li : length inner ≡ 32 = omega (arith, lw, ap length wrapped, longer key first owner inner) in
-      let lp : length plain ≡ c.length = omega (arith, is.long, length-drop 96 bytes, ap length value, longer inner second owner plain) in
-      let bi : AreBytes inner = within key first owner (take 48 (drop 36 bytes)) inner in_key (bytes_take 12 (drop 24 bytes) (bytes_drop 24 bytes in_bytes)) (bytes_take 48 (drop 36 bytes) (bytes_drop 36 bytes in_bytes)) ke in
+      let li : length inner ≡ 32 = omega (arith, lw, ap length wrapped, longer key first extra inner) in
+      let lp : length plain ≡ c.length = omega (arith, is.long, length-drop 96 bytes, ap length value, longer inner second extra plain) in
+      let bi : AreBytes inner = within key first extra (take 48 (drop 36 bytes)) inner in_key (bytes_take 12 (drop 24 bytes) (bytes_drop 24 bytes in_bytes)) (bytes_take 48 (drop 36 bytes) (bytes_drop 36 bytes in_bytes)) ke in
       let drawn = inner ++ (first ++ second) in
       let dk : data_key drawn ≡ inner = take_at inner (first ++ second) 32 li in
       let behind : drop 32 drawn ≡ first ++ second = drop_at inner (first ++ second) 32 li in
@@ -92,9 +92,9 @@ module _ (sealed : Sealing) (opened : Opening) (opens : (k n e p : List ℕ) →
           drawn = drawn;
           full = omega (arith, length-append inner (first ++ second), length-append first second, li, lf, ls);
           in_bytes = bytes_append inner (first ++ second) bi (bytes_append first second (bytes_take 12 (drop 24 bytes) (bytes_drop 24 bytes in_bytes)) (bytes_take 12 (drop 84 bytes) (bytes_drop 84 bytes in_bytes)));
-          made = five_parts bytes ∙ same (take 24 bytes) first (take 48 (drop 36 bytes)) second (drop 96 bytes) (header c.id (length plain)) (key_nonce drawn) (sealed key (key_nonce drawn) owner (data_key drawn)) (value_nonce drawn) (sealed (data_key drawn) (value_nonce drawn) owner plain)
-              (is.head ∙ ap (header c.id) (sym lp)) (sym kn) (wrapped ∙ ap (λ (xs : List ℕ). sealed key xs owner inner) (sym kn) ∙ ap (λ (xs : List ℕ). sealed key (key_nonce drawn) owner xs) (sym dk)) (sym vn)
-              (value ∙ ap (λ (xs : List ℕ). sealed xs second owner plain) (sym dk) ∙ ap (λ (xs : List ℕ). sealed (data_key drawn) xs owner plain) (sym vn));
+          made = five_parts bytes ∙ same (take 24 bytes) first (take 48 (drop 36 bytes)) second (drop 96 bytes) (header c.version c.id (length plain)) (key_nonce drawn) (sealed key (key_nonce drawn) extra (data_key drawn)) (value_nonce drawn) (sealed (data_key drawn) (value_nonce drawn) extra plain)
+              (is.head ∙ ap (header c.version c.id) (sym lp)) (sym kn) (wrapped ∙ ap (λ (xs : List ℕ). sealed key xs extra inner) (sym kn) ∙ ap (λ (xs : List ℕ). sealed key (key_nonce drawn) extra xs) (sym dk)) (sym vn)
+              (value ∙ ap (λ (xs : List ℕ). sealed xs second extra plain) (sym dk) ∙ ap (λ (xs : List ℕ). sealed (data_key drawn) xs extra plain) (sym vn));
         },
       )
     where
@@ -104,9 +104,9 @@ module _ (sealed : Sealing) (opened : Opening) (opens : (k n e p : List ℕ) →
       same : (h a b c d h' a' b' c' d' : List ℕ) → h ≡ h' → a ≡ a' → b ≡ b' → c ≡ c' → d ≡ d' → h ++ a ++ b ++ c ++ d ≡ h' ++ a' ++ b' ++ c' ++ d'
       same h a b c d h' a' b' c' d' e1 e2 e3 e4 e5 = rw (e1, e2, e3, e4, e5) refl
 
-  pub plain_spelled : (owner key bytes plain : List ℕ) (c : Container) → AreBytes key → AreBytes bytes → IsContainer bytes c → opened_container opened owner key bytes ≡ Some plain → (length plain ≡ c.length) × IsSpelling sealed owner c.id key bytes plain
-  plain_spelled owner key bytes plain c in_key in_bytes is e =
-      option_and_then_some (opened_value opened owner bytes) (opened_key opened owner key bytes) plain e (λ inner ke ve. spelled_by owner key bytes plain inner c in_key in_bytes is ke ve)
+  pub plain_spelled : (extra key bytes plain : List ℕ) (c : Container) → AreBytes key → AreBytes bytes → IsContainer bytes c → opened_container opened extra key bytes ≡ Some plain → (length plain ≡ c.length) × IsSpelling sealed extra c.version c.id key bytes plain
+  plain_spelled extra key bytes plain c in_key in_bytes is e =
+      option_and_then_some (opened_value opened extra bytes) (opened_key opened extra key bytes) plain e (λ inner ke ve. spelled_by extra key bytes plain inner c in_key in_bytes is ke ve)
 
-  pub spelled_plain : (owner key bytes plain : List ℕ) (c : Container) → (length plain ≡ c.length) × IsSpelling sealed owner c.id key bytes plain → opened_container opened owner key bytes ≡ Some plain
-  spelled_plain owner key bytes plain c h = container_opens sealed opened opens only longer owner c.id key h.1.drawn plain bytes h.1.full h.1.made
+  pub spelled_plain : (extra key bytes plain : List ℕ) (c : Container) → (length plain ≡ c.length) × IsSpelling sealed extra c.version c.id key bytes plain → opened_container opened extra key bytes ≡ Some plain
+  spelled_plain extra key bytes plain c h = container_opens sealed opened opens only longer extra c.version c.id key h.1.drawn plain bytes h.1.full h.1.made

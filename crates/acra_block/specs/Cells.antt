@@ -12,7 +12,9 @@ use Rattle.acra_block.specs.declared.parts.PlainPart.{PlainPart}
 use Rattle.acra_block.specs.declared.keys.KeyView.{KeyView}
 use Rattle.acra_block.specs.declared.opening.Opened.{Opened}
 use Rattle.acra_block.specs.declared.opening.Opened.TheVariants as answers
+use Rattle.acra_block.specs.declared.place.CellPlace.{CellPlace}
 use Rattle.acra_block.specs.Keys.{Key, key_of}
+use Rattle.acra_block.specs.Places.{extra_of}
 use Rattle.acra_block.specs.Containers.{Sealing, Opening, container, container_of, opened_container}
 
 -- ---- sealing
@@ -42,13 +44,17 @@ IsCuttable (kinds.Masked left n chars) plain = chars ≡ true → IsUtf8 plain
 IsCuttable kinds.Sealed plain = Unit {0}
 IsCuttable kinds.Searchable plain = Unit {0}
 
--- the cell of a value, with 56 drawn bytes
-abbrev pub cell : Sealing → CellKind → Key → List ℕ → List ℕ → List ℕ
-cell sealed kinds.Sealed k drawn plain = container sealed k.owner k.id k.key drawn plain
-cell sealed kinds.Searchable k drawn plain = blind_index k.search plain ++ container sealed k.owner k.id k.key drawn plain
-cell sealed (kinds.Masked left n chars) k drawn plain =
+-- the container of a value in its place
+abbrev pub placed_container : Sealing → CellPlace → ℕ → Key → List ℕ → List ℕ → List ℕ
+placed_container sealed place version k drawn plain = container sealed (extra_of version place k.owner) version k.id k.key drawn plain
+
+-- the cell of a value in its place, with 56 drawn bytes
+abbrev pub cell : Sealing → CellKind → CellPlace → ℕ → Key → List ℕ → List ℕ → List ℕ
+cell sealed kinds.Sealed place version k drawn plain = placed_container sealed place version k drawn plain
+cell sealed kinds.Searchable place version k drawn plain = blind_index k.search plain ++ placed_container sealed place version k drawn plain
+cell sealed (kinds.Masked left n chars) place version k drawn plain =
     let parts = cut left n chars plain in
-    masked_head left parts.0 ++ container sealed k.owner k.id k.key drawn parts.1
+    masked_head left parts.0 ++ placed_container sealed place version k drawn parts.1
 
 -- ---- the form
 
@@ -84,6 +90,10 @@ cell_parts (kinds.Masked left n chars) bytes = option_and_then (of_side left) (m
 abbrev pub named_key : CellKind → List ℕ → Option ℕ
 named_key kind bytes = option_and_then (λ (p : Parts). option_map (λ (c : Container). c.id) (container_of p.sealed)) (cell_parts kind bytes)
 
+-- the version of a cell's container
+abbrev pub version_of : CellKind → List ℕ → Option ℕ
+version_of kind bytes = option_and_then (λ (p : Parts). option_map (λ (c : Container). c.version) (container_of p.sealed)) (cell_parts kind bytes)
+
 -- where the plain part of a masked cell stands
 abbrev pub clear_part : List ℕ → Option PlainPart
 clear_part bytes =
@@ -100,26 +110,26 @@ abbrev pub rest_opened : Parts → Option (List ℕ) → Opened × List ℕ
 rest_opened parts (Some rest) = (answers.Plain, joined parts.left parts.plain rest)
 rest_opened parts None = (answers.Broken, [])
 
--- by the key that is named
-abbrev pub key_found : Opening → List ℕ → Parts → Option (List ℕ) → Opened × List ℕ
-key_found opened who parts (Some key) = rest_opened parts (opened_container opened who key parts.sealed)
-key_found opened who parts None = (answers.Foreign, [])
+-- by the key that is named, with the extra of the container's version for this place
+abbrev pub key_found : Opening → CellPlace → List ℕ → Container → Parts → Option (List ℕ) → Opened × List ℕ
+key_found opened place who c parts (Some key) = rest_opened parts (opened_container opened (extra_of c.version place who) key parts.sealed)
+key_found opened place who c parts None = (answers.Foreign, [])
 
 -- by what the container tells
-abbrev pub container_found : Opening → KeyView → Parts → Option Container → Opened × List ℕ
-container_found opened view parts (Some c) =
-    if nat_lt c.id view.next_id then key_found opened view.who parts (key_of c.id view.keys)
+abbrev pub container_found : Opening → CellPlace → KeyView → Parts → Option Container → Opened × List ℕ
+container_found opened place view parts (Some c) =
+    if nat_lt c.id view.next_id then key_found opened place view.who c parts (key_of c.id view.keys)
     else (answers.UnknownKey c.id, [])
-container_found opened view parts None = (answers.Broken, [])
+container_found opened place view parts None = (answers.Broken, [])
 
 -- by the form of the kind
-abbrev pub parts_found : Opening → KeyView → Option Parts → Opened × List ℕ
-parts_found opened view (Some parts) = container_found opened view parts (container_of parts.sealed)
-parts_found opened view None = (answers.Broken, [])
+abbrev pub parts_found : Opening → CellPlace → KeyView → Option Parts → Opened × List ℕ
+parts_found opened place view (Some parts) = container_found opened place view parts (container_of parts.sealed)
+parts_found opened place view None = (answers.Broken, [])
 
--- what a cell opens to, and its value where it is Plain
-abbrev pub opened_cell : Opening → CellKind → KeyView → List ℕ → Opened × List ℕ
-opened_cell opened kind view bytes = parts_found opened view (cell_parts kind bytes)
+-- what a cell of this place opens to, and its value where it is Plain
+abbrev pub opened_cell : Opening → CellKind → CellPlace → KeyView → List ℕ → Opened × List ℕ
+opened_cell opened kind place view bytes = parts_found opened place view (cell_parts kind bytes)
 
 -- what is answered, and what stands in the output then
 abbrev pub Answers : Opened × List ℕ → Opened → List ℕ → List ℕ → Type 0

@@ -1,4 +1,5 @@
 pub mod Keys
+pub mod Places
 pub mod Containers
 pub mod Characters
 pub mod Cells

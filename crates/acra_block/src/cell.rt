@@ -7,6 +7,7 @@ use crate::cut::cut;
 use crate::index::blind_index;
 use crate::keys::OwnerKey;
 use crate::kind::CellKind;
+use crate::place::{CellPlace, extra_of};
 use acra_base::NoMemory;
 use acra_crypto::Aead;
 use std::alloc::Global;
@@ -28,23 +29,27 @@ fn cell_of<A: Aead>(
     alloc: Global,
     aead: &A,
     kind: CellKind,
+    place: &CellPlace,
+    version: u8,
     key: &OwnerKey,
     plain: &[u8],
     draws: &[u8; 56],
 ) -> Result<Vec<u8>, NoMemory>
+    requires first { 1 ≤ version }
     requires short { length plain.now ≤ 2 ^ 18 }
     requires text { IsCuttable kind plain.now }
-    ensures { IfOk result (λ made. made.items ≡ cell (A.sealed aead.now) kind key.now draws.now plain.now) }
+    ensures { IfOk result (λ made. made.items ≡ cell (A.sealed aead.now) kind place.now version key.now draws.now plain.now) }
 {
+    let extra = extra_of(alloc, version, place, key.owner().text())?;
     let mut made = Vec::new(alloc);
     match kind {
         CellKind::Sealed => {
-            push_container(aead, key, draws, plain, &mut made)?;
+            push_container(alloc, aead, &extra, version, key, draws, plain, &mut made)?;
             Ok(made)
         }
         CellKind::Searchable => {
             made.extend_from_slice(&blind_index(key.search(), plain))?;
-            push_container(aead, key, draws, plain, &mut made)?;
+            push_container(alloc, aead, &extra, version, key, draws, plain, &mut made)?;
             Ok(made)
         }
         CellKind::Masked {
@@ -54,30 +59,35 @@ fn cell_of<A: Aead>(
         } => {
             let (shown, rest) = cut(left, length as usize, chars, plain);
             push_masked_head(left, shown, &mut made)?;
-            push_container(aead, key, draws, rest, &mut made)?;
+            push_container(alloc, aead, &extra, version, key, draws, rest, &mut made)?;
             Ok(made)
         }
     }
 }
 
-/// Appends the cell of a value, at most 2^18 bytes long, under its owner's key. The 56 drawn bytes are
-/// the data key of its container and the nonces of its two seals, and serve one cell. A value that is
-/// cut by characters is UTF-8. Without memory `out` stays.
+/// Appends the cell of a value, at most 2^18 bytes long, under its owner's key. In version 2 it is bound to
+/// its place, in version 1 to its owner alone. The 56 drawn bytes are the data key of its container and the
+/// nonces of its two seals, and serve one cell. A value that is cut by characters is UTF-8. Without memory
+/// `out` stays.
 pub fn seal_cell<A: Aead>(
+    alloc: Global,
     aead: &A,
     kind: CellKind,
+    place: &CellPlace,
+    version: u8,
     key: &OwnerKey,
     plain: &[u8],
     draws: &[u8; 56],
     out: &mut Vec<u8>,
 ) -> Result<(), NoMemory>
+    requires first { 1 ≤ version }
+    requires last { version ≤ 2 }
     requires short { length plain.now ≤ 2 ^ 18 }
     requires text { IsCuttable kind plain.now }
-    ensures ok { OnOk result (out.new.items ≡ out.old.items ++ cell (A.sealed aead.now) kind key.now draws.now plain.now) }
+    ensures ok { OnOk result (out.new.items ≡ out.old.items ++ cell (A.sealed aead.now) kind place.now version key.now draws.now plain.now) }
     ensures err { OnErr result (out.new.items ≡ out.old.items) }
 {
-    let alloc = *out.allocator();
-    let made = cell_of(alloc, aead, kind, key, plain, draws)?;
+    let made = cell_of(alloc, aead, kind, place, version, key, plain, draws)?;
     out.extend_from_slice(&made)?;
     Ok(())
 }

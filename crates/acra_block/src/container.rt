@@ -22,27 +22,52 @@ const VALUE_LIMIT: usize = 1 << 18;
 pub struct Container {
     /// The id of the key that sealed it, at least 1.
     pub id: u64,
+    /// 1, or 2 where the seals are bound to a table and a column.
+    pub version: u8,
     /// How long its plaintext is, at most 2^18 bytes.
     pub length: u32,
 }
 
 /// The first bytes of a container.
-fn header(id: u64, len: u64) -> [u8; 24]
-    requires { len < 2 ^ 63 }
-    ensures { result ≡ header id len }
+fn header(version: u8, id: u64, len: u64) -> [u8; 24]
+    requires first { 1 ≤ version }
+    requires short { len < 2 ^ 63 }
+    ensures { result ≡ header version id len }
 {
     let [i0, i1, i2, i3, i4, i5, i6, i7] = id.to_le_bytes();
     let [n0, n1, n2, n3, n4, n5, n6, n7] = (100 + len).to_le_bytes();
     let [k0, k1] = KEY_LEN.to_le_bytes();
     let [m0, m1, m2, m3] = MARK;
     [
-        m0, m1, m2, m3, n0, n1, n2, n3, n4, n5, n6, n7, 0, i0, i1, i2, i3, i4, i5, i6, i7, 0, k0,
+        m0,
+        m1,
+        m2,
+        m3,
+        n0,
+        n1,
+        n2,
+        n3,
+        n4,
+        n5,
+        n6,
+        n7,
+        version - 1,
+        i0,
+        i1,
+        i2,
+        i3,
+        i4,
+        i5,
+        i6,
+        i7,
+        0,
+        k0,
         k1,
     ]
 }
 
 /// What a container tells, `None` exactly where the bytes aren't of a container's form: their length,
-/// each fixed byte and both told lengths are judged, and that the id is at least 1. It takes no memory.
+/// each fixed byte and both told lengths are judged, that the version is 1 or 2, and the id at least 1. It takes no memory.
 pub fn read_container(bytes: &[u8]) -> Option<Container>
     ensures { result ≡ container_of bytes.now }
 {
@@ -54,40 +79,47 @@ pub fn read_container(bytes: &[u8]) -> Option<Container>
     let id = u64::from_le_bytes([
         head[13], head[14], head[15], head[16], head[17], head[18], head[19], head[20],
     ]);
-    if id == 0 || head != header(id, length as u64).as_slice() {
+    if id == 0 || head[12] > 1 {
+        return None;
+    }
+    let version = head[12] + 1;
+    if head != header(version, id, length as u64).as_slice() {
         return None;
     }
     Some(Container {
         id,
+        version,
         length: length as u32,
     })
 }
 
-/// Appends the container of a value under its owner's key: the 56 drawn bytes are the data key, the
-/// nonce of its seal, and the nonce of the value's seal.
+/// Appends the container of a value under its owner's key, both seals with this extra: the 56 drawn bytes
+/// are the data key, the nonce of its seal, and the nonce of the value's seal.
 pub fn push_container<A: Aead>(
+    alloc: Global,
     aead: &A,
+    extra: &[u8],
+    version: u8,
     key: &OwnerKey,
     draws: &[u8; 56],
     plain: &[u8],
     out: &mut Vec<u8>,
 ) -> Result<(), NoMemory>
-    requires { length plain.now < 2 ^ 63 }
-    ensures { OnOk result (out.new.items ≡ out.old.items ++ container (A.sealed aead.now) key.now.owner key.now.id key.now.key draws.now plain.now) }
+    requires first { 1 ≤ version }
+    requires short { length plain.now < 2 ^ 63 }
+    ensures { OnOk result (out.new.items ≡ out.old.items ++ container (A.sealed aead.now) extra.now version key.now.id key.now.key draws.now plain.now) }
 {
-    let alloc = *out.allocator();
     let mut data_key = [0; 32];
     data_key.copy_from_slice(&draws[..32]);
     let mut key_nonce = [0; 12];
     key_nonce.copy_from_slice(&draws[32..44]);
     let mut value_nonce = [0; 12];
     value_nonce.copy_from_slice(&draws[44..]);
-    let owner = key.owner().text();
-    out.extend_from_slice(&header(key.id(), plain.len() as u64))?;
+    out.extend_from_slice(&header(version, key.id(), plain.len() as u64))?;
     out.extend_from_slice(&key_nonce)?;
-    aead.seal(alloc, key.key(), &key_nonce, owner, &data_key, out)?;
+    aead.seal(alloc, key.key(), &key_nonce, extra, &data_key, out)?;
     out.extend_from_slice(&value_nonce)?;
-    aead.seal(alloc, &data_key, &value_nonce, owner, plain, out)?;
+    aead.seal(alloc, &data_key, &value_nonce, extra, plain, out)?;
     Ok(())
 }
 
@@ -95,18 +127,18 @@ pub fn push_container<A: Aead>(
 fn unsealed<A: Aead>(
     alloc: Global,
     aead: &A,
-    owner: &[u8],
+    extra: &[u8],
     key: &[u8; 32],
     nonce: &[u8],
     text: &[u8],
 ) -> Result<Option<Bytes>, NoMemory>
     requires { length nonce.now ≡ 12 }
-    ensures { IfOk result (λ found. found ≡ A.opened aead.now key.now nonce.now owner.now text.now) }
+    ensures { IfOk result (λ found. found ≡ A.opened aead.now key.now nonce.now extra.now text.now) }
 {
     let mut exact = [0; 12];
     exact.copy_from_slice(nonce);
     let mut out = Vec::new(alloc);
-    if aead.unseal(alloc, key, &exact, owner, text, &mut out)? {
+    if aead.unseal(alloc, key, &exact, extra, text, &mut out)? {
         Ok(Some(Bytes::from_vec(out)))
     } else {
         Ok(None)
@@ -117,17 +149,17 @@ fn unsealed<A: Aead>(
 fn open_value<A: Aead>(
     alloc: Global,
     aead: &A,
-    owner: &[u8],
+    extra: &[u8],
     data_key: &[u8],
     bytes: &[u8],
 ) -> Result<Option<Bytes>, NoMemory>
     requires key { length data_key.now ≡ 32 }
     requires long { 112 ≤ length bytes.now }
-    ensures { IfOk result (λ found. found ≡ opened_value (A.opened aead.now) owner.now bytes.now data_key.now) }
+    ensures { IfOk result (λ found. found ≡ opened_value (A.opened aead.now) extra.now bytes.now data_key.now) }
 {
     let mut key = [0; 32];
     key.copy_from_slice(data_key);
-    unsealed(alloc, aead, owner, &key, &bytes[84..96], &bytes[96..])
+    unsealed(alloc, aead, extra, &key, &bytes[84..96], &bytes[96..])
 }
 
 /// The plaintext of a container, where both seals open: the data key's under the owner's key, and the
@@ -135,15 +167,15 @@ fn open_value<A: Aead>(
 pub fn open_container<A: Aead>(
     alloc: Global,
     aead: &A,
-    owner: &[u8],
+    extra: &[u8],
     key: &[u8; 32],
     bytes: &[u8],
 ) -> Result<Option<Bytes>, NoMemory>
     requires { 112 ≤ length bytes.now }
-    ensures { IfOk result (λ found. found ≡ opened_container (A.opened aead.now) owner.now key.now bytes.now) }
+    ensures { IfOk result (λ found. found ≡ opened_container (A.opened aead.now) extra.now key.now bytes.now) }
 {
-    match unsealed(alloc, aead, owner, key, &bytes[24..36], &bytes[36..84])? {
-        Some(data_key) => open_value(alloc, aead, owner, data_key.as_slice(), bytes),
+    match unsealed(alloc, aead, extra, key, &bytes[24..36], &bytes[36..84])? {
+        Some(data_key) => open_value(alloc, aead, extra, data_key.as_slice(), bytes),
         None => Ok(None),
     }
 }

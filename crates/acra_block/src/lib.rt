@@ -11,12 +11,14 @@ mod kind;
 mod laws;
 mod opening;
 mod parts;
+mod place;
 
 pub use cell::seal_cell;
 pub use container::{Container, read_container};
 pub use index::blind_index;
 pub use keys::{KeyView, LiveKey, OwnerKey};
 pub use kind::CellKind;
-pub use laws::{one_form, plain_is_spelled, sealed_opens};
+pub use laws::{one_extra, one_form, one_place, plain_is_spelled, sealed_opens};
 pub use opening::{Opened, open_cell};
 pub use parts::{PlainPart, key_id, plain_part};
+pub use place::CellPlace;

@@ -6,8 +6,8 @@ returns g c =
     let aead = c.args._aead.now in
     let laws = g.met.A.Aead in
     record {
-      opens = λ owner key bytes plain container in_key in_bytes is. (
-        plain_spelled (g.A.Aead.sealed aead) (g.A.Aead.opened aead) (laws.opens aead) (laws.only aead) (laws.longer aead) (laws.in_bytes aead) owner key bytes plain container in_key in_bytes is,
-        spelled_plain (g.A.Aead.sealed aead) (g.A.Aead.opened aead) (laws.opens aead) (laws.only aead) (laws.longer aead) (laws.in_bytes aead) owner key bytes plain container,
+      opens = λ extra key bytes plain container in_key in_bytes is. (
+        plain_spelled (g.A.Aead.sealed aead) (g.A.Aead.opened aead) (laws.opens aead) (laws.only aead) (laws.longer aead) (laws.in_bytes aead) extra key bytes plain container in_key in_bytes is,
+        spelled_plain (g.A.Aead.sealed aead) (g.A.Aead.opened aead) (laws.opens aead) (laws.only aead) (laws.longer aead) (laws.in_bytes aead) extra key bytes plain container,
       );
     }

@@ -47,7 +47,7 @@ short_written tree plain h e = absurd cc
 -- ---- a cell that is made for it
 
 stored_cell : (keys : Key) (g : ChaCha) (text : List ℕ) → length text ≤ string_limit → IsBytes (sealed_cell keys (drawn 56 g).0 text) → IsStored keys keys.owner text (sealed_cell keys (drawn 56 g).0 text)
-stored_cell keys g text short bytes = record { drawn = (drawn 56 g).0; full = drawn_length g; owned = refl; short = short; made = refl; bytes = bytes }
+stored_cell keys g text short bytes = record { version = 2; first = omega arith; last = omega arith; drawn = (drawn 56 g).0; full = drawn_length g; owned = refl; short = short; made = refl; bytes = bytes }
 
 meant_more : (keys : Key) (rows : List (List PlainCell)) (row : List PlainCell) → AllByRecursion (IsMeant (IsStored keys)) rows → IsMeant (IsStored keys) row → AllByRecursion (IsMeant (IsStored keys)) (rows ++ row ∷ [])
 meant_more keys [] row h m = (m, tt)

@@ -10,6 +10,8 @@ use Rattle.acra_crypto.specs.Sealed.{gcm_opens, gcm_only, length-gcm_sealed}
 use Rattle.acra_block.specs.declared.kind.CellKind.TheVariants as kinds
 use Rattle.acra_block.specs.declared.keys.KeyView.{KeyView}
 use Rattle.acra_block.specs.Keys.{Key}
+use Rattle.acra_block.specs.Places.{extra_of}
+use Rattle.acra_block.specs.Cells.{cell}
 use Rattle.acra_block.proofs.Sealed.{cell_opens}
 use Rattle.acra_block.proofs.Spelled.{sealed_parts}
 use Rattle.session_model.specs.Meanings.{string_limit}
@@ -18,19 +20,21 @@ use Rattle.table_machine.specs.Tables.{Table}
 use Rattle.session_model.specs.Plain.{PlainCell}
 use Rattle.session_model.specs.Standing.{IsMeant, AreMeant}
 use Rattle.session_model.specs.Shown.{Opens}
-use Rattle.lab_session.specs.Cells.{sealing, opening, sealed_cell, IsStored, HasKey, text_bytes, value_of, value_in, opened_by}
+use Rattle.lab_session.specs.Cells.{sealing, opening, notes_body, sealed_cell, IsStored, HasKey, text_bytes, value_of, value_in, opened_by}
 
 -- a sealed cell has 112 bytes more than its value
 pub sealed_length : (key : Key) (drawn plain stored : List ℕ) → length drawn ≡ 56 → stored ≡ sealed_cell key drawn plain → length stored ≡ 112 + length plain
 sealed_length key drawn plain stored full made =
-    let parts = sealed_parts sealing opening (λ k n e p. gcm_opens (aes256 k) n e p) (λ k n e s p h. gcm_only (aes256 k) n e s p h) (λ k n e p. length-gcm_sealed (aes256 k) n e p) key.owner key.id key.key drawn plain stored full made in
-    omega (arith, parts.long, length-gcm_sealed (aes256 (take 32 drawn)) (take 12 (drop 44 drawn)) key.owner plain)
+    let extra = extra_of 2 notes_body key.owner in
+    let parts = sealed_parts sealing opening (λ k n e p. gcm_opens (aes256 k) n e p) (λ k n e s p h. gcm_only (aes256 k) n e s p h) (λ k n e p. length-gcm_sealed (aes256 k) n e p) extra 2 key.id key.key drawn plain stored full made in
+    omega (arith, parts.long, length-gcm_sealed (aes256 (take 32 drawn)) (take 12 (drop 44 drawn)) extra plain)
 
-pub value_again : (key : Key) (view : KeyView) (drawn plain stored : List ℕ) → HasKey view key → length drawn ≡ 56 → length plain ≤ string_limit → stored ≡ sealed_cell key drawn plain → value_in view stored ≡ Some plain
-value_again key view drawn plain stored has full short made =
+pub value_again : (key : Key) (view : KeyView) (version : ℕ) (drawn plain stored : List ℕ) → HasKey view key → 1 ≤ version → version ≤ 2 → length drawn ≡ 56 → length plain ≤ string_limit
+    → stored ≡ cell sealing kinds.Sealed notes_body version key drawn plain → value_in view stored ≡ Some plain
+value_again key view version drawn plain stored has first last full short made =
     ap (value_in view) made
     ∙ ap value_of (cell_opens sealing opening (λ k n e p. gcm_opens (aes256 k) n e p) (λ k n e s p h. gcm_only (aes256 k) n e s p h) (λ k n e p. length-gcm_sealed (aes256 k) n e p)
-    kinds.Sealed key view drawn plain short tt full has.least has.fits has.given has.who has.found)
+    notes_body version first last kinds.Sealed key view drawn plain short tt full has.least has.fits has.given has.who has.found)
 
 -- bytes in text form mean these bytes
 pub text_again : (bytes : List ℕ) → IsBytes bytes → text_bytes (stored_text bytes) ≡ Some bytes
@@ -39,7 +43,7 @@ text_again bytes h = ap result_ok (decode_of-encode_lower bytes h)
 pub stored_opens : (keys : Key) (view : KeyView) → HasKey view keys → (owner plain stored : List ℕ) → IsStored keys owner plain stored → Opens keys.owner (opened_by view) owner plain stored
 stored_opens keys view has owner plain stored h = record {
   owned = h.owned;
-  opens = ap (λ (o : Option (List ℕ)). option_and_then (value_in view) o) (text_again stored h.bytes) ∙ value_again keys view h.drawn plain stored has h.full h.short h.made;
+  opens = ap (λ (o : Option (List ℕ)). option_and_then (value_in view) o) (text_again stored h.bytes) ∙ value_again keys view h.version h.drawn plain stored has h.first h.last h.full h.short h.made;
 }
 
 -- rows of stored cells open

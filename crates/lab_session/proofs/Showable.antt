@@ -15,6 +15,7 @@ use Rattle.acra_block.specs.declared.container.Container.{Container}
 use Rattle.acra_block.specs.declared.keys.KeyView.{KeyView}
 use Rattle.acra_block.specs.declared.opening.Opened.TheVariants as answers
 use Rattle.acra_block.specs.Keys.{key_of}
+use Rattle.acra_block.specs.Places.{extra_of}
 use Rattle.acra_block.specs.Containers.{container_of, opened_key, opened_value, opened_container}
 use Rattle.acra_block.specs.Cells.{Parts, rest_opened, key_found, container_found}
 use Rattle.pg_wire.specs.declared.back.Field.{Field}
@@ -24,7 +25,7 @@ use Rattle.pg_wire.specs.Backs.{IsField, field_bytes, IsCell, cell_bytes}
 use Rattle.machine_replies.specs.Replies.{IsWritable}
 use Rattle.lab_backend.proofs.Lengths.{length-field_bytes}
 use Rattle.session_model.specs.Shown.{as_text, where_protected, opened_or, shown_cell, shown_message}
-use Rattle.lab_session.specs.Cells.{opening, text_bytes, value_of, value_in, opened_by}
+use Rattle.lab_session.specs.Cells.{opening, notes_body, text_bytes, value_of, value_in, opened_by}
 
 -- ---- what opens is shorter than its text
 
@@ -46,20 +47,20 @@ container_shorter owner key bytes plain e =
 abbrev whole_parts : List ℕ → Parts
 whole_parts bytes = record { left = true; plain = []; sealed = bytes }
 
-rest_shorter : (owner key bytes plain : List ℕ) (found : Option (List ℕ)) → opened_container opening owner key bytes ≡ found → value_of (rest_opened (whole_parts bytes) found) ≡ Some plain → length plain ≤ length bytes
-rest_shorter owner key bytes plain (Some rest) e h = container_shorter owner key bytes plain (e ∙ h)
-rest_shorter owner key bytes plain None e h = absurd cc
+rest_shorter : (extra key bytes plain : List ℕ) (found : Option (List ℕ)) → opened_container opening extra key bytes ≡ found → value_of (rest_opened (whole_parts bytes) found) ≡ Some plain → length plain ≤ length bytes
+rest_shorter extra key bytes plain (Some rest) e h = container_shorter extra key bytes plain (e ∙ h)
+rest_shorter extra key bytes plain None e h = absurd cc
 
-key_shorter : (owner bytes plain : List ℕ) (found : Option (List ℕ)) → value_of (key_found opening owner (whole_parts bytes) found) ≡ Some plain → length plain ≤ length bytes
-key_shorter owner bytes plain (Some key) h = rest_shorter owner key bytes plain (opened_container opening owner key bytes) refl h
-key_shorter owner bytes plain None h = absurd cc
+key_shorter : (owner bytes plain : List ℕ) (c : Container) (found : Option (List ℕ)) → value_of (key_found opening notes_body owner c (whole_parts bytes) found) ≡ Some plain → length plain ≤ length bytes
+key_shorter owner bytes plain c (Some key) h = let extra = extra_of c.version notes_body owner in rest_shorter extra key bytes plain (opened_container opening extra key bytes) refl h
+key_shorter owner bytes plain c None h = absurd cc
 
-told_shorter : (view : KeyView) (bytes plain : List ℕ) (found : Option Container) → value_of (container_found opening view (whole_parts bytes) found) ≡ Some plain → length plain ≤ length bytes
+told_shorter : (view : KeyView) (bytes plain : List ℕ) (found : Option Container) → value_of (container_found opening notes_body view (whole_parts bytes) found) ≡ Some plain → length plain ≤ length bytes
 told_shorter view bytes plain None h = absurd cc
 told_shorter view bytes plain (Some c) h = by (nat_lt c.id view.next_id) h
   where
-    by : (b : Bool) → value_of (if b then key_found opening view.who (whole_parts bytes) (key_of c.id view.keys) else (answers.UnknownKey c.id, [])) ≡ Some plain → length plain ≤ length bytes
-    by true k = key_shorter view.who bytes plain (key_of c.id view.keys) k
+    by : (b : Bool) → value_of (if b then key_found opening notes_body view.who c (whole_parts bytes) (key_of c.id view.keys) else (answers.UnknownKey c.id, [])) ≡ Some plain → length plain ≤ length bytes
+    by true k = key_shorter view.who bytes plain c (key_of c.id view.keys) k
     by false k = absurd cc
 
 value_shorter : (view : KeyView) (bytes plain : List ℕ) → value_in view bytes ≡ Some plain → length plain ≤ length bytes

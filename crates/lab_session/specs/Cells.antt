@@ -10,9 +10,11 @@ use Rattle.acra_block.specs.Containers.{Sealing, Opening}
 use Rattle.acra_block.specs.Cells.{cell, opened_cell}
 use Rattle.acra_block.specs.declared.kind.CellKind.TheVariants as kinds
 use Rattle.acra_block.specs.declared.keys.KeyView.{KeyView}
+use Rattle.acra_block.specs.declared.place.CellPlace.{CellPlace}
 use Rattle.acra_block.specs.declared.opening.Opened.{Opened}
 use Rattle.acra_block.specs.declared.opening.Opened.TheVariants as answers
 use Rattle.session_model.specs.Meanings.{string_limit}
+use Rattle.session_model.specs.Notes.{notes, body}
 
 -- the cipher, AES-256-GCM
 abbrev pub sealing : Sealing
@@ -21,17 +23,24 @@ sealing key nonce extra plain = aes256_gcm key nonce extra plain
 abbrev pub opening : Opening
 opening key nonce extra text = aes256_gcm_opened key nonce extra text
 
--- the sealed cell of a value, with these drawn bytes
-abbrev pub sealed_cell : Key → List ℕ → List ℕ → List ℕ
-sealed_cell key drawn plain = cell sealing kinds.Sealed key drawn plain
+-- where the cells stand
+abbrev pub notes_body : CellPlace
+notes_body = record { table = notes; column = body }
 
--- a stored cell of the client, made for a value with 56 drawn bytes
+-- the sealed cell of a value in version 2, with these drawn bytes
+abbrev pub sealed_cell : Key → List ℕ → List ℕ → List ℕ
+sealed_cell key drawn plain = cell sealing kinds.Sealed notes_body 2 key drawn plain
+
+-- a stored cell of the client, made in either version for a value with 56 drawn bytes
 pub record IsStored (key : Key) (owner plain stored : List ℕ) : Type 0 where
+  pub version : ℕ
+  pub first : 1 ≤ version
+  pub last : version ≤ 2
   pub drawn : List ℕ
   pub full : length drawn ≡ 56
   pub owned : owner ≡ key.owner
   pub short : length plain ≤ string_limit
-  pub made : stored ≡ sealed_cell key drawn plain
+  pub made : stored ≡ cell sealing kinds.Sealed notes_body version key drawn plain
   pub bytes : IsBytes stored
 
 -- ---- opening
@@ -56,7 +65,7 @@ value_of (answers.UnknownKey id, none) = None
 value_of (answers.Foreign, none) = None
 
 abbrev pub value_in : KeyView → List ℕ → Option (List ℕ)
-value_in view bytes = value_of (opened_cell opening kinds.Sealed view bytes)
+value_in view bytes = value_of (opened_cell opening kinds.Sealed notes_body view bytes)
 
 -- what a cell in text form opens to
 abbrev pub opened_by : KeyView → List ℕ → Option (List ℕ)

@@ -23,6 +23,7 @@ mod status;
 mod stop;
 
 pub use notes::notes_tables;
+pub use opening::open_text;
 pub use seeded::client_ring;
 pub use session::first_session;
 pub use status::Status;

@@ -1,8 +1,10 @@
 ghost use Rattle.std.specs.Prelude.{◌≡◌, [], true, IfOk};
 ghost use Rattle.acra_base.specs.Names.{is_name};
 ghost use Rattle.session_model.specs.Notes.{notes_with};
+ghost use Rattle.lab_session.specs.Cells.{notes_body};
 
 use acra_base::{Bytes, Name, NoMemory, Sequence, ValueKind};
+use acra_block::CellPlace;
 use std::alloc::Global;
 use table_machine::{ColumnDef, TableDef};
 use table_store::Tables;
@@ -21,6 +23,16 @@ fn column(alloc: Global, name: &[u8], kind: ValueKind) -> Result<ColumnDef, NoMe
     Ok(ColumnDef {
         name: named(alloc, name)?,
         kind,
+    })
+}
+
+/// The place of the protected cells.
+pub fn notes_body(alloc: Global) -> Result<CellPlace, NoMemory>
+    ensures { IfOk result (λ place. place ≡ notes_body) }
+{
+    Ok(CellPlace {
+        table: named(alloc, b"notes")?,
+        column: named(alloc, b"body")?,
     })
 }
 

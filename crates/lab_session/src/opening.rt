@@ -1,6 +1,7 @@
 ghost use Rattle.std.specs.Prelude.{◌≡◌, IfOk};
 ghost use Rattle.lab_session.specs.Cells.{text_bytes, value_in, opened_by};
 
+use crate::notes::notes_body;
 use acra_base::{Bytes, NoMemory};
 use acra_block::{CellKind, KeyView, Opened, open_cell};
 use acra_crypto::Aes256Gcm;
@@ -29,8 +30,17 @@ fn text_bytes(alloc: Global, text: &[u8]) -> Result<Option<Bytes>, NoMemory>
 fn cell_value(alloc: Global, view: &KeyView, cell: &[u8]) -> Result<Option<Bytes>, NoMemory>
     ensures { IfOk result (λ found. found ≡ value_in view.now cell.now) }
 {
+    let place = notes_body(alloc)?;
     let mut plain = Vec::new(alloc);
-    match open_cell(&Aes256Gcm, CellKind::Sealed, view, cell, &mut plain)? {
+    match open_cell(
+        alloc,
+        &Aes256Gcm,
+        CellKind::Sealed,
+        &place,
+        view,
+        cell,
+        &mut plain,
+    )? {
         Opened::Plain => Ok(Some(Bytes::from_vec(plain))),
         Opened::Broken | Opened::UnknownKey(_) | Opened::Foreign => Ok(None),
     }

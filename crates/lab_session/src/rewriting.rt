@@ -4,12 +4,16 @@ ghost use Rattle.sql_tree.specs.declared.statement.Statement.TheVariants as stat
 ghost use Rattle.session_model.specs.Meanings.{has_short_strings};
 ghost use Rattle.lab_session.specs.Runs.{cell_for, drawn_for};
 
+use crate::notes::notes_body;
 use acra_base::{Bytes, Name, NoMemory, Sequence};
 use acra_block::{CellKind, OwnerKey, seal_cell};
 use acra_crypto::Aes256Gcm;
 use acra_devices::SureRandom;
 use sql_tree::{Item, Items, Operand, Statement, Whole};
 use std::alloc::Global;
+
+/// The version of the containers that are written.
+const VERSION: u8 = 2;
 
 /// Whether an item of a SELECT is the protected column.
 pub fn is_protected(item: &Item) -> bool
@@ -167,8 +171,19 @@ pub fn cell_for(
         Some(plain) => {
             let mut drawn = [0; 56];
             random.fill(&mut drawn);
+            let place = notes_body(alloc)?;
             let mut cell = Vec::new(alloc);
-            seal_cell(&Aes256Gcm, CellKind::Sealed, key, plain, &drawn, &mut cell)?;
+            seal_cell(
+                alloc,
+                &Aes256Gcm,
+                CellKind::Sealed,
+                &place,
+                VERSION,
+                key,
+                plain,
+                &drawn,
+                &mut cell,
+            )?;
             Ok(cell)
         }
     }

@@ -7,7 +7,7 @@ use crate::testing::STARTUP;
 use acra_base::ClientId;
 use acra_devices::SureLink;
 use lab_backend::LabBackend;
-use lab_session::{Status, client_ring, first_session, notes_tables};
+use lab_session::{Status, client_ring, first_session, notes_tables, open_text};
 use std::alloc::Global;
 use std::test::Fail;
 
@@ -26,24 +26,32 @@ const DESCRIBED: &[u8] = b"T\x00\x00\x00\x1d\x00\x01body\x00\x00\x00\x40\x00\x00
 /// A DataRow of one cell of 234 bytes: `\x` and the digits of a container of 116 bytes.
 const ROW: &[u8] = b"D\x00\x00\x00\xf4\x00\x01\x00\x00\x00\xea\\x";
 
-/// The containers of two values `it's` for the client app and the seed 1: the header; the nonce of the
-/// data key's seal, the sealed key and its tag; the nonce of the value's seal, the sealed value and its
-/// tag. The client's key is bytes 96 to 128 of OpenSSL's ChaCha20 key stream for the key 1, 0, 0, .. .
-/// The first container takes bytes 160 to 216 of it: 32 of data key, 12 of nonce, 12 of nonce; the
-/// second one bytes 216 to 272. The seals are AES-256-GCM by Python's cryptography 48.0.
-const FIRST: &[u8] = b"222222226800000000000000000100000000000000003c00\
+/// The containers of two values `it's` for the client app and the seed 1, in version 2 for the column body of the
+/// table notes: the header; the nonce of the data key's seal, the sealed key and its tag; the nonce of the value's
+/// seal, the sealed value and its tag. The client's key is bytes 96 to 128 of OpenSSL's ChaCha20 key stream for the
+/// key 1, 0, 0, .. . The first container takes bytes 160 to 216 of it: 32 of data key, 12 of nonce, 12 of nonce;
+/// the second one bytes 216 to 272. The seals are AES-256-GCM by Python's cryptography 48.0.
+const FIRST: &[u8] = b"222222226800000000000000010100000000000000003c00\
+    a3e2edc43e1057b25345acd3\
+    a238cb855968bdd8377f805b942a3e2fcfc23bef21bf0ed75c87ea241d7016c3\
+    2a139c012bc454557a54351cf8c10746\
+    350a0029dd74f39cd4f2f8a9\
+    5189d1d8effe879417165bd9a8a0d3a238b9abe1";
+
+const SECOND: &[u8] = b"222222226800000000000000010100000000000000003c00\
+    e026b65c5da3a3b02cb33448\
+    2467350532eeb83cfe07178d0e978b5cf94e2c5704f2b0ae3d92fcb0fb7de5bd\
+    c1d3f18683d6439d495e2e1beea37a08\
+    7f6949e8d2edfbc555c0324f\
+    2a35c4d12228560a1e4c9df742c9da667ff434db";
+
+/// The first one in version 1.
+const OLD: &[u8] = b"222222226800000000000000000100000000000000003c00\
     a3e2edc43e1057b25345acd3\
     a238cb855968bdd8377f805b942a3e2fcfc23bef21bf0ed75c87ea241d7016c3\
     2b39d1a27a3027fd297c6b9f932ccde9\
     350a0029dd74f39cd4f2f8a9\
     5189d1d8da825748cc4db2a9c3b2cf40df164be2";
-
-const SECOND: &[u8] = b"222222226800000000000000000100000000000000003c00\
-    e026b65c5da3a3b02cb33448\
-    2467350532eeb83cfe07178d0e978b5cf94e2c5704f2b0ae3d92fcb0fb7de5bd\
-    c0f9bc25d22230351a767098854eb0a7\
-    7f6949e8d2edfbc555c0324f\
-    2a35c4d128cdc2f53c1de279b4a1d6c07b9d6e5e";
 
 const TAG: &[u8] = b"C\x00\x00\x00\x0dSELECT 2\x00Z\x00\x00\x00\x05I";
 
@@ -95,6 +103,21 @@ fn stored_cells(rt: HostRuntime) -> Result<(), Fail> {
     assert!(rt; backend.execute(1, &mut reply)?);
     let stored = joined(alloc, &[DESCRIBED, ROW, FIRST, ROW, SECOND, TAG])?;
     assert_eq!(rt; reply.as_slice(), stored.as_slice());
+    Ok(())
+}
+
+/// A stored cell of either version is shown to its owner.
+#[test]
+fn cells_of_both_versions(rt: HostRuntime) -> Result<(), Fail> {
+    let alloc = rt.alloc();
+    let who = ClientId::read(b"app")?;
+    let (ring, _random) = client_ring(alloc, &who, 1)?;
+    let view = ring.view(&who)?;
+    for digits in [OLD, FIRST] {
+        let stored = joined(alloc, &[b"\\x", digits])?;
+        let shown = open_text(alloc, &view, &stored)?.ok_or("the cell doesn't open")?;
+        assert_eq!(rt; shown.as_slice(), b"it's".as_slice());
+    }
     Ok(())
 }
 

@@ -1,10 +1,13 @@
 //! Cells: what another program makes of the same keys and draws, what they open to, and each bit changed.
 
+ghost use Rattle.std.specs.Prelude.{◌≡◌, ◌≤◌, true};
+ghost use Rattle.acra_base.specs.Names.{is_name};
+
 use super::{array, bytes};
-use acra_base::{ClientId, Sequence};
+use acra_base::{Bytes, ClientId, Name, Sequence};
 use acra_block::{
-    CellKind, Container, KeyView, LiveKey, Opened, OwnerKey, PlainPart, key_id, open_cell,
-    plain_part, read_container, seal_cell,
+    CellKind, CellPlace, Container, KeyView, LiveKey, Opened, OwnerKey, PlainPart, key_id,
+    open_cell, plain_part, read_container, seal_cell,
 };
 use acra_crypto::Aes256Gcm;
 use std::alloc::Global;
@@ -17,19 +20,35 @@ const KEY: &str = "2308b95cf8d0bb7d202d2102780ea3528f1cb48560f76b20f382b942500fc
 const DRAWS: &str = "c86654e8bb4d40bc7bfbf0fbd9d91f943e6225a8f8968aa7242402170de92c28\
     a3e2edc43e1057b25345acd3350a0029dd74f39cd4f2f8a9";
 
-// The containers of "it's", of nothing and of "567" for the client `app`, with this key and these draws,
-// and the blind index of "ann@x.org" under the bytes 0 to 31: Python 3.11, cryptography 48.0 and hmac.
-const QUOTED: &str = "222222226800000000000000000100000000000000003c00a3e2edc43e1057b25345acd3\
-    a238cb855968bdd8377f805b942a3e2fcfc23bef21bf0ed75c87ea241d7016c32b39d1a27a3027fd297c6b9f932ccde9\
-    350a0029dd74f39cd4f2f8a95189d1d8da825748cc4db2a9c3b2cf40df164be2";
+// The containers of "it's", of nothing and of "567" for the client `app`, with this key and these draws, in
+// version 1 and, for the column body of the table notes, in version 2; and the blind index of "ann@x.org" under
+// the bytes 0 to 31: Python 3.11, cryptography 48.0 and hmac.
+const QUOTED: [&str; 2] = [
+    "222222226800000000000000000100000000000000003c00a3e2edc43e1057b25345acd3\
+        a238cb855968bdd8377f805b942a3e2fcfc23bef21bf0ed75c87ea241d7016c32b39d1a27a3027fd297c6b9f932ccde9\
+        350a0029dd74f39cd4f2f8a95189d1d8da825748cc4db2a9c3b2cf40df164be2",
+    "222222226800000000000000010100000000000000003c00a3e2edc43e1057b25345acd3\
+        a238cb855968bdd8377f805b942a3e2fcfc23bef21bf0ed75c87ea241d7016c32a139c012bc454557a54351cf8c10746\
+        350a0029dd74f39cd4f2f8a95189d1d8effe879417165bd9a8a0d3a238b9abe1",
+];
 
-const EMPTY: &str = "222222226400000000000000000100000000000000003c00a3e2edc43e1057b25345acd3\
-    a238cb855968bdd8377f805b942a3e2fcfc23bef21bf0ed75c87ea241d7016c32b39d1a27a3027fd297c6b9f932ccde9\
-    350a0029dd74f39cd4f2f8a96897e81cf70213cbb35c477df9f4f244";
+const EMPTY: [&str; 2] = [
+    "222222226400000000000000000100000000000000003c00a3e2edc43e1057b25345acd3\
+        a238cb855968bdd8377f805b942a3e2fcfc23bef21bf0ed75c87ea241d7016c32b39d1a27a3027fd297c6b9f932ccde9\
+        350a0029dd74f39cd4f2f8a96897e81cf70213cbb35c477df9f4f244",
+    "222222226400000000000000010100000000000000003c00a3e2edc43e1057b25345acd3\
+        a238cb855968bdd8377f805b942a3e2fcfc23bef21bf0ed75c87ea241d7016c32a139c012bc454557a54351cf8c10746\
+        350a0029dd74f39cd4f2f8a989ca1bcdd985d3ba2b8734f5367fd82c",
+];
 
-const REST: &str = "222222226700000000000000000100000000000000003c00a3e2edc43e1057b25345acd3\
-    a238cb855968bdd8377f805b942a3e2fcfc23bef21bf0ed75c87ea241d7016c32b39d1a27a3027fd297c6b9f932ccde9\
-    350a0029dd74f39cd4f2f8a90dcbc172e3ec7e41dffba32b078012d1ea5bc8";
+const REST: [&str; 2] = [
+    "222222226700000000000000000100000000000000003c00a3e2edc43e1057b25345acd3\
+        a238cb855968bdd8377f805b942a3e2fcfc23bef21bf0ed75c87ea241d7016c32b39d1a27a3027fd297c6b9f932ccde9\
+        350a0029dd74f39cd4f2f8a90dcbc172e3ec7e41dffba32b078012d1ea5bc8",
+    "222222226700000000000000010100000000000000003c00a3e2edc43e1057b25345acd3\
+        a238cb855968bdd8377f805b942a3e2fcfc23bef21bf0ed75c87ea241d7016c32a139c012bc454557a54351cf8c10746\
+        350a0029dd74f39cd4f2f8a90dcbc1479f3ca29a8412d340159cf03645bbcb",
+];
 
 const INDEX: &str = "0122d5964b20bb27628b0244dc762dc0db8d2aa9aca5c66213341aaae09885b7f5";
 
@@ -60,59 +79,147 @@ fn view(alloc: Global, next_id: u64, has_key: bool) -> Result<KeyView, Fail> {
     Ok(KeyView { who, next_id, keys })
 }
 
-/// The cell of a short ASCII value.
-fn cell(rt: &impl Abort, alloc: Global, kind: CellKind, plain: &str) -> Result<Vec<u8>, Fail> {
+fn named(alloc: Global, name: &[u8]) -> Result<Name, Fail>
+    requires { is_name name.now ≡ true }
+{
+    Ok(Name::new(Bytes::copied(alloc, name)?))
+}
+
+/// This column of this table.
+fn place(alloc: Global, table: &[u8], column: &[u8]) -> Result<CellPlace, Fail>
+    requires table { is_name table.now ≡ true }
+    requires column { is_name column.now ≡ true }
+{
+    Ok(CellPlace {
+        table: named(alloc, table)?,
+        column: named(alloc, column)?,
+    })
+}
+
+/// The cell of a short ASCII value in the column body of the table notes.
+fn cell(
+    rt: &impl Abort,
+    alloc: Global,
+    kind: CellKind,
+    version: u8,
+    plain: &str,
+) -> Result<Vec<u8>, Fail>
+    requires first { 1 ≤ version }
+    requires last { version ≤ 2 }
+{
     let draws = array(&bytes(alloc, DRAWS)?);
     assert!(rt; plain.len() < 100);
     let mut out = Vec::new(alloc);
     let key = owner_key(alloc)?;
-    seal_cell(&Aes256Gcm, kind, &key, plain.as_bytes(), &draws, &mut out)
-        .ok()
-        .ok_or("no memory")?;
+    let body = place(alloc, b"notes", b"body")?;
+    let plain = plain.as_bytes();
+    seal_cell(
+        alloc, &Aes256Gcm, kind, &body, version, &key, plain, &draws, &mut out,
+    )?;
     Ok(out)
 }
 
-/// What a cell opens to, and its value.
+/// What a cell opens to in a place, and its value.
+fn opened_in(
+    alloc: Global,
+    kind: CellKind,
+    place: &CellPlace,
+    keys: &KeyView,
+    cell: &[u8],
+) -> Result<(Opened, Vec<u8>), Fail> {
+    let mut out = Vec::new(alloc);
+    let answer = open_cell(alloc, &Aes256Gcm, kind, place, keys, cell, &mut out)?;
+    Ok((answer, out))
+}
+
+/// What a cell opens to in the column body of the table notes, and its value.
 fn opened(
     alloc: Global,
     kind: CellKind,
     keys: &KeyView,
     cell: &[u8],
 ) -> Result<(Opened, Vec<u8>), Fail> {
-    let mut out = Vec::new(alloc);
-    let answer = open_cell(&Aes256Gcm, kind, keys, cell, &mut out)
-        .ok()
-        .ok_or("no memory")?;
-    Ok((answer, out))
+    let body = place(alloc, b"notes", b"body")?;
+    opened_in(alloc, kind, &body, keys, cell)
 }
 
-#[test]
-fn cells_by_another_program(rt: HostRuntime) -> Result<(), Fail> {
-    let cases: [(CellKind, &str, &[&str]); 4] = [
-        (CellKind::Sealed, "it's", &[QUOTED]),
-        (CellKind::Sealed, "", &[EMPTY]),
-        (MASKED, "1234567", &["02000400000031323334", REST]),
-        (MASKED, "", &["020000000000", EMPTY]),
-    ];
-    for (kind, plain, parts) in cases {
-        let mut wanted = Vec::new(rt.alloc());
-        for part in parts {
-            wanted.extend_from_slice(&bytes(rt.alloc(), part)?)?;
-        }
-        let made = cell(&rt, rt.alloc(), kind, plain)?;
-        assert_eq!(rt; made.as_slice(), wanted.as_slice(), "{plain}");
+/// A value is sealed in both versions as another program does it.
+fn is_made(
+    rt: &impl Abort,
+    alloc: Global,
+    kind: CellKind,
+    plain: &str,
+    front: &str,
+    containers: [&str; 2],
+) -> Result<(), Fail> {
+    let mut version = 1;
+    for container in containers {
+        let mut wanted = bytes(alloc, front)?;
+        wanted.extend_from_slice(&bytes(alloc, container)?)?;
+        assert!(rt; version == 1 || version == 2);
+        let made = cell(rt, alloc, kind, version, plain)?;
+        assert_eq!(rt; made.as_slice(), wanted.as_slice(), "{plain} {version}");
+        version += 1;
     }
-    let made = cell(&rt, rt.alloc(), CellKind::Searchable, "ann@x.org")?;
-    let index = bytes(rt.alloc(), INDEX)?;
-    assert!(rt; made.starts_with(&index));
     Ok(())
 }
 
 #[test]
-fn empty_cell(rt: HostRuntime) -> Result<(), Fail> {
+fn cells_by_another_program(rt: HostRuntime) -> Result<(), Fail> {
     let alloc = rt.alloc();
-    let mut made = cell(&rt, alloc, CellKind::Sealed, "")?;
-    let told = Container { id: 1, length: 0 };
+    is_made(&rt, alloc, CellKind::Sealed, "it's", "", QUOTED)?;
+    is_made(&rt, alloc, CellKind::Sealed, "", "", EMPTY)?;
+    is_made(&rt, alloc, MASKED, "1234567", "02000400000031323334", REST)?;
+    is_made(&rt, alloc, MASKED, "", "020000000000", EMPTY)?;
+    let made = cell(&rt, alloc, CellKind::Searchable, 2, "ann@x.org")?;
+    let index = bytes(alloc, INDEX)?;
+    assert!(rt; made.starts_with(&index));
+    Ok(())
+}
+
+/// A cell of this version opens in another place so, with this value.
+fn opens_elsewhere(
+    rt: &impl Abort,
+    alloc: Global,
+    version: u8,
+    wanted: Opened,
+    value: &str,
+) -> Result<(), Fail>
+    requires first { 1 ≤ version }
+    requires last { version ≤ 2 }
+{
+    let keys = view(alloc, 2, true)?;
+    let made = cell(rt, alloc, CellKind::Sealed, version, "it's")?;
+    let places = [
+        place(alloc, b"notes", b"other")?,
+        place(alloc, b"others", b"body")?,
+        place(alloc, b"body", b"notes")?,
+    ];
+    for elsewhere in &places {
+        let (answer, plain) = opened_in(alloc, CellKind::Sealed, elsewhere, &keys, &made)?;
+        assert_eq!(rt; answer, wanted);
+        assert_eq!(rt; plain.as_slice(), value.as_bytes());
+    }
+    Ok(())
+}
+
+#[test]
+fn cells_in_another_place(rt: HostRuntime) -> Result<(), Fail> {
+    opens_elsewhere(&rt, rt.alloc(), 1, Opened::Plain, "it's")?;
+    opens_elsewhere(&rt, rt.alloc(), 2, Opened::Broken, "")
+}
+
+/// What the empty cell of a version tells, and what it opens to.
+fn is_empty_cell(rt: &impl Abort, alloc: Global, version: u8) -> Result<(), Fail>
+    requires first { 1 ≤ version }
+    requires last { version ≤ 2 }
+{
+    let mut made = cell(rt, alloc, CellKind::Sealed, version, "")?;
+    let told = Container {
+        id: 1,
+        version,
+        length: 0,
+    };
     assert_eq!(rt; made.len(), 112);
     assert_eq!(rt; read_container(&made), Some(told));
     assert_eq!(rt; key_id(CellKind::Sealed, &made), Some(1));
@@ -136,12 +243,18 @@ fn empty_cell(rt: HostRuntime) -> Result<(), Fail> {
 }
 
 #[test]
+fn empty_cell(rt: HostRuntime) -> Result<(), Fail> {
+    is_empty_cell(&rt, rt.alloc(), 1)?;
+    is_empty_cell(&rt, rt.alloc(), 2)
+}
+
+#[test]
 fn masked_cards(rt: HostRuntime) -> Result<(), Fail> {
     let alloc = rt.alloc();
     let keys = view(alloc, 2, true)?;
     let cases: [(&str, usize); 4] = [("1234567", 10), ("1234", 6), ("123", 6), ("", 6)];
     for (card, end) in cases {
-        let made = cell(&rt, alloc, MASKED, card)?;
+        let made = cell(&rt, alloc, MASKED, 2, card)?;
         let part = PlainPart {
             left: true,
             start: 6,
@@ -168,7 +281,7 @@ fn part_of(
         length,
         chars: true,
     };
-    let made = cell(rt, alloc, kind, text)?;
+    let made = cell(rt, alloc, kind, 2, text)?;
     let (answer, plain) = opened(alloc, kind, &view(alloc, 2, true)?, &made)?;
     assert_eq!(rt; answer, Opened::Plain);
     assert_eq!(rt; plain.as_slice(), text.as_bytes());
@@ -202,7 +315,7 @@ fn characters(rt: HostRuntime) -> Result<(), Fail> {
 /// Opens a cell with each bit from a place on changed.
 fn each_bit(rt: &impl Abort, alloc: Global, kind: CellKind, start: usize) -> Result<(), Fail> {
     let keys = view(alloc, 2, true)?;
-    let mut made = cell(rt, alloc, kind, "1234567")?;
+    let mut made = cell(rt, alloc, kind, 2, "1234567")?;
     for place in start..made.len() {
         for bit in 0..8u32 {
             assert!(rt; place < made.len());

@@ -1,5 +1,4 @@
-//! Tests of devices, ciphers, cells and rings: published examples, what other programs give, and each device failing in
-//! mid-stream.
+//! Tests of ciphers, macs, cells and rings: published examples, and what other programs give.
 #![tactic(auto)]
 
 #[cfg(test)]

@@ -1,10 +1,7 @@
 //! What is asked of each crate, and bytes as hexadecimal digits.
 
-mod adapters;
 mod cells;
 mod ciphers;
-mod devices;
-mod files;
 mod macs;
 mod rings;
 

@@ -97,3 +97,10 @@ ring_behind ring ring' left left' key h = inr (where_map left left' _ _ (has_mas
 pub log_behind : {D : Type 0} (log log' : D) (left left' under under' : Option (List ℕ)) (master key : List ℕ) → WhereRead left left' (λ file. IsMaster file master) → WhereRead under under' (λ file. RingFound master (Ok key) file)
     → OnlyWhere log log' (WhereRead left left' (λ m. WhereRead under under' (λ r. HasKey m r)))
 log_behind log log' left left' under under' master key is found = inr (where_map left left' _ _ (λ m h. where_map under under' _ _ (λ r f. (key, gives_key m r master key h f)) found) is)
+
+-- the log was verified under the key of both
+pub reported_all : (ma ma' ri ri' lo lo' held held' : Option (List ℕ)) (master key : List ℕ) (status : AuditStatus) → IsReport status
+    → WhereRead ma ma' (λ file. IsMaster file master) → WhereRead ri ri' (λ file. RingFound master (Ok key) file) → WhereRead lo lo' (λ file. Reported key held held' status file)
+    → WhereRead ma ma' (λ m. WhereRead ri ri' (λ r. WhereRead lo lo' (λ l. Outcome m r l held held' status)))
+reported_all ma ma' ri ri' lo lo' held held' master key status shape is found reported =
+    where_map ma ma' _ _ (λ m h. where_map ri ri' _ _ (λ r f. where_map lo lo' _ _ (λ l p. reported_outcome m r l key held held' status shape (gives_key m r master key h f) p) reported) found) is

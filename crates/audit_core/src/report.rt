@@ -1,6 +1,7 @@
-ghost use Rattle.std.specs.Prelude.{◌≡◌, ◌≤◌, ◌⊎◌, true};
+ghost use Rattle.std.specs.Prelude.{◌≡◌, ◌≤◌, ◌^◌, ◌⊎◌, true};
 ghost use Rattle.acra_devices.specs.Causes.{Rose};
-ghost use Rattle.audit_chain.specs.Verdicts.{WhereRead};
+ghost use Rattle.acra_devices.specs.Known.{IsAtEnd};
+ghost use Rattle.audit_chain.specs.Verdicts.{WhereRead, Took};
 ghost use Rattle.audit_core.specs.Reports.{Printed, IsReport, is_silent, Reported, IsDueReport};
 
 use crate::status::{AuditStatus, FolderFile};
@@ -44,6 +45,8 @@ pub fn report<S: Source, K: Sink>(
     ensures exact { WhereRead (S.left log.old) (S.left log.new) (IsDueReport key.now result) }
     ensures shape { IsReport result }
     ensures silent { is_silent result ≡ true → output.new ≡ output.old }
+    ensures took { Took (S.left log.old) (S.left log.new) (2 ^ 48) }
+    ensures whole { result ≡ AuditStatus.Done → IsAtEnd (S.left log.new) }
     ensures read_later { S.read_faults log.old ≤ S.read_faults log.new }
     ensures write_later { K.write_faults output.old ≤ K.write_faults output.new }
     ensures read_stayed { (result ≡ AuditStatus.ReadFault FolderFile.Audit → ⊥) → S.read_faults log.new ≡ S.read_faults log.old }

@@ -1,6 +1,7 @@
-ghost use Rattle.std.specs.Prelude.{◌≡◌, ◌≤◌, ◌↔◌, length};
+ghost use Rattle.std.specs.Prelude.{◌≡◌, ◌≤◌, ◌^◌, ◌↔◌, length};
 ghost use Rattle.acra_devices.specs.Causes.{Rose};
-ghost use Rattle.audit_chain.specs.Verdicts.{WhereRead};
+ghost use Rattle.acra_devices.specs.Known.{IsAtEnd};
+ghost use Rattle.audit_chain.specs.Verdicts.{WhereRead, Took};
 ghost use Rattle.audit_core.specs.Outcomes.{HasMaster, HasKey, Outcome, IsDueEnd};
 ghost use Rattle.audit_core.specs.Untouched.{Untouched, OnlyWhere};
 
@@ -28,6 +29,8 @@ pub fn audit_top<S: Source, T: Source, U: Source, K: Sink>(
     ensures untouched { Untouched result master.old master.new ring.old ring.new log.old log.new output.old output.new }
     ensures keystore_after { OnlyWhere ring.old ring.new (WhereRead (S.left master.old) (S.left master.new) HasMaster) }
     ensures log_after { OnlyWhere log.old log.new (WhereRead (S.left master.old) (S.left master.new) (λ m. WhereRead (T.left ring.old) (T.left ring.new) (λ r. HasKey m r))) }
+    ensures took { Took (U.left log.old) (U.left log.new) (2 ^ 48) }
+    ensures whole { result ≡ AuditStatus.Done → IsAtEnd (U.left log.new) }
     ensures later { (S.read_faults master.old ≤ S.read_faults master.new) × (T.read_faults ring.old ≤ T.read_faults ring.new)
         × (U.read_faults log.old ≤ U.read_faults log.new) × (K.write_faults output.old ≤ K.write_faults output.new) }
     ensures log_stayed { (result ≡ AuditStatus.ReadFault FolderFile.Audit → ⊥) → U.read_faults log.new ≡ U.read_faults log.old }

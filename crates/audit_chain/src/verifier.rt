@@ -24,7 +24,7 @@ pub enum VerifyFault {
     #[error("line {line} of the log is longer than 512 bytes")]
     LineTooLong { line: u64 },
     /// 2^48 bytes were read.
-    #[error("the log is longer than 2^48 bytes")]
+    #[error("the log has 2^48 bytes or more")]
     Spent,
     /// A read failed.
     #[error("reading the log failed")]

@@ -13,4 +13,5 @@ pub mod Within
 pub mod Readings
 pub mod FrameLaws
 pub mod OneMessage
+pub mod RunLaws
 pub mod Unfinished

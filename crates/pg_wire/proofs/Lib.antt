@@ -14,4 +14,9 @@ pub mod Readings
 pub mod FrameLaws
 pub mod OneMessage
 pub mod RunLaws
+pub mod Placing
+pub mod ListPlaces
+pub mod FieldPlaces
+pub mod FaultPlaces
+pub mod FrontPlaces
 pub mod Unfinished

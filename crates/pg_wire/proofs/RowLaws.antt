@@ -90,10 +90,10 @@ column_is : (f : Field) → column f.name f.table f.attribute f.kind (cast_unsig
 column_is f =
     sym (regroup7 (str f.name) (to_be_bytes w32 f.table) (to_be_bytes w16 f.attribute) (to_be_bytes w32 f.kind) (to_be_bytes w16 (cast_unsigned w16 f.size)) (to_be_bytes w32 (cast_unsigned w32 f.modifier)) (to_be_bytes w16 f.format))
 
-fits16 : (n : ℕ) → n < 2 ^ 16 → FitsSigned w16 (cast_signed w16 n)
+pub fits16 : (n : ℕ) → n < 2 ^ 16 → FitsSigned w16 (cast_signed w16 n)
 fits16 n lt = sfits_to_z (record { fits = lt })
 
-fits32 : (n : ℕ) → n < 2 ^ 32 → FitsSigned w32 (cast_signed w32 n)
+pub fits32 : (n : ℕ) → n < 2 ^ 32 → FitsSigned w32 (cast_signed w32 n)
 fits32 n lt = sfits_to_z (record { fits = lt })
 
 field_takes : (bytes : List ℕ) (x : Field × List ℕ) → IsBytes bytes → field_at bytes ≡ Ok x → Takes bytes (field_bytes x.0) x.1 × IsField x.0

@@ -8,3 +8,4 @@ pub mod Reading
 pub mod Heads
 pub mod Bodies
 pub mod Prefixes
+pub mod Places

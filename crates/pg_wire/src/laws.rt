@@ -1,4 +1,4 @@
-ghost use Rattle.std.specs.Prelude.{◌≡◌, ◌<◌, ◌++◌, ◌⊎◌, ℕ, Bool, List, Ok, slice_index};
+ghost use Rattle.std.specs.Prelude.{◌≡◌, ◌<◌, ◌-◌, ◌++◌, ◌⊎◌, ℕ, Bool, List, Ok, Err, length, slice_index};
 ghost use Rattle.pg_wire.specs.declared.frame.Side.{Side};
 ghost use Rattle.pg_wire.specs.declared.frame.FrameFault.{FrameFault};
 ghost use Rattle.pg_wire.specs.declared.front.Front.{Front};
@@ -11,6 +11,7 @@ ghost use Rattle.pg_wire.specs.Backs.{IsBack, back_kind, back_body};
 ghost use Rattle.pg_wire.specs.Prefixes.{BeginsFrame};
 ghost use Rattle.pg_wire.specs.Bodies.{front_read, back_read};
 ghost use Rattle.pg_wire.specs.Reading.{SpellsFront, SpellsBack};
+ghost use Rattle.pg_wire.specs.Places.{joined, front_fields, IsFrontFault};
 
 /// No frame begins another: a stream begins with one frame at most.
 pub fn one_frame()
@@ -75,4 +76,12 @@ pub fn one_stream()
         → fed_bytes b ≡ fed_bytes a ++ more → Begins (given a) (given b) ⊎ Begins (given b) (given a) }
     ensures same { (who : Side) (limit : ℕ) (a b : List Event) (s t : Stream) → Run (new_stream who limit) a s → Run (new_stream who limit) b t
         → fed_bytes a ≡ fed_bytes b → IsDrained s → IsDrained t → given a ≡ given b }
+{}
+
+/// A client's message is made of its fields. Where a body can't be read is the end of the longest beginning that whole fields of some message of its
+/// type make, and a body has one such place.
+pub fn front_places()
+    ensures fields { (m : Front) → front_body m ≡ joined (front_fields m) }
+    ensures place { (kind : ℕ) (body : List ℕ) (left : ℕ) → ((i : ℕ) → slice_index body i < 256) → front_read kind body ≡ Err left → IsFrontFault kind body (length body - left) }
+    ensures one { (kind : ℕ) (body : List ℕ) (a b : ℕ) → IsFrontFault kind body a → IsFrontFault kind body b → a ≡ b }
 {}

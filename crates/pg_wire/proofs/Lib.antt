@@ -19,4 +19,5 @@ pub mod ListPlaces
 pub mod FieldPlaces
 pub mod FaultPlaces
 pub mod FrontPlaces
+pub mod BackPlaces
 pub mod Unfinished

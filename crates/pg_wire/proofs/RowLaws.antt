@@ -80,7 +80,7 @@ abbrev column : List ℕ → ℕ → ℕ → ℕ → ℕ → ℕ → ℕ → Lis
 column name table attribute kind size modifier format =
     str name ++ (to_be_bytes w32 table ++ (to_be_bytes w16 attribute ++ (to_be_bytes w32 kind ++ (to_be_bytes w16 size ++ (to_be_bytes w32 modifier ++ to_be_bytes w16 format)))))
 
-regroup7 : (a b c d e f g : List ℕ) → a ++ b ++ c ++ d ++ e ++ f ++ g ≡ a ++ (b ++ (c ++ (d ++ (e ++ (f ++ g)))))
+pub regroup7 : (a b c d e f g : List ℕ) → a ++ b ++ c ++ d ++ e ++ f ++ g ≡ a ++ (b ++ (c ++ (d ++ (e ++ (f ++ g)))))
 regroup7 a b c d e f g = simp append_assoc
 
 regroup8 : (a b c d e f g h : List ℕ) → (a ++ b ++ c ++ d ++ e ++ f ++ g) ++ h ≡ a ++ (b ++ (c ++ (d ++ (e ++ (f ++ (g ++ h))))))

@@ -11,7 +11,7 @@ ghost use Rattle.pg_wire.specs.Backs.{IsBack, back_kind, back_body};
 ghost use Rattle.pg_wire.specs.Prefixes.{BeginsFrame};
 ghost use Rattle.pg_wire.specs.Bodies.{front_read, back_read};
 ghost use Rattle.pg_wire.specs.Reading.{SpellsFront, SpellsBack};
-ghost use Rattle.pg_wire.specs.Places.{joined, front_fields, IsFrontFault};
+ghost use Rattle.pg_wire.specs.Places.{joined, front_fields, back_fields, IsFrontFault, IsBackFault};
 
 /// No frame begins another: a stream begins with one frame at most.
 pub fn one_frame()
@@ -84,4 +84,11 @@ pub fn front_places()
     ensures fields { (m : Front) → front_body m ≡ joined (front_fields m) }
     ensures place { (kind : ℕ) (body : List ℕ) (left : ℕ) → ((i : ℕ) → slice_index body i < 256) → front_read kind body ≡ Err left → IsFrontFault kind body (length body - left) }
     ensures one { (kind : ℕ) (body : List ℕ) (a b : ℕ) → IsFrontFault kind body a → IsFrontFault kind body b → a ≡ b }
+{}
+
+/// A server's message is made of its fields, and the place where a body can't be read is as for a client's.
+pub fn back_places()
+    ensures fields { (m : Back) → back_body m ≡ joined (back_fields m) }
+    ensures place { (kind : ℕ) (body : List ℕ) (left : ℕ) → ((i : ℕ) → slice_index body i < 256) → back_read kind body ≡ Err left → IsBackFault kind body (length body - left) }
+    ensures one { (kind : ℕ) (body : List ℕ) (a b : ℕ) → IsBackFault kind body a → IsBackFault kind body b → a ≡ b }
 {}

@@ -1,5 +1,6 @@
 -- A log that is read piece by piece.
 use Rattle.std.proofs.Common.{◌≡◌, ℕ, ◌+◌, ◌-◌, ◌%◌, ◌^◌, ◌<◌, ◌≤◌, ◌⊎◌, inl, inr, Bool, true, false, List, [], ◌∷◌, ◌++◌, length, take, Option, Result, Ok, Err, refl, sym, ap, subst, ◌∙◌, arith, length-append}
+use Rattle.std.specs.Prelude.{IsErrOf}
 use Rattle.std.specs.List.{flat_map}
 use Rattle.std.proofs.Math.Nat.{mod-eq_of_lt}
 use Rattle.std.proofs.lemmas.List.{length-take-le, take-append-le, append-nil}
@@ -10,6 +11,7 @@ use Rattle.audit_chain.specs.Points.{Point, StandsBehind}
 use Rattle.audit_chain.specs.Findings.{written, Finding, Begins, IsBadLine, IsCutShort, IsTooLong}
 use Rattle.audit_chain.specs.Walks.{IsAt, StopsIn, EndsAt}
 use Rattle.audit_chain.specs.Reads.{PieceRead, PieceStops, SoFar, FoundIn, Ends}
+use Rattle.audit_chain.specs.Verdicts.{Took}
 use Rattle.audit_chain.specs.declared.walk.Walk.{Walk}
 use Rattle.audit_chain.specs.declared.stop.Stop.{Stop}
 use Rattle.audit_chain.specs.declared.stop.Stop.TheVariants as stops
@@ -19,6 +21,30 @@ pub stops_in_piece : (key bytes : List ℕ) (left left' : Option (List ℕ)) (bu
 stops_in_piece key bytes left left' buf more count room stop took held within h =
     let same : take count (buf ++ more) ≡ take count buf = take-append-le count buf more held in
     inr (take count buf, took, omega (arith, within, length-take-le count buf held), subst (λ (piece : List ℕ). StopsIn key (bytes ++ piece) stop) same h)
+
+-- ---- what was read
+
+pub took_none : (left left' : Option (List ℕ)) (room : ℕ) → Shrank left left' [] → Took left left' room
+took_none left left' room none = record { bytes = []; took = none; within = omega arith }
+
+pub took_front : (left left' : Option (List ℕ)) (buf : List ℕ) (count room : ℕ) → Shrank left left' (take count buf) → count ≤ length buf → count ≤ room → Took left left' room
+took_front left left' buf count room took held within = record { bytes = take count buf; took = took; within = omega (arith, within, length-take-le count buf held) }
+
+pub took_so_far : (key : List ℕ) (left0 left : Option (List ℕ)) (walk : Walk) (taken : ℕ) → SoFar key left0 left walk taken → taken ≤ 2 ^ 48 → Took left0 left (2 ^ 48)
+took_so_far key left0 left walk taken s fits = record { bytes = s.bytes; took = s.took; within = omega (arith, s.count, fits) }
+
+pub took_on : (key : List ℕ) (left0 left left' : Option (List ℕ)) (walk : Walk) (taken room : ℕ) → SoFar key left0 left walk taken → taken ≤ 2 ^ 48 → room ≡ 2 ^ 48 - taken → Took left left' room → Took left0 left' (2 ^ 48)
+took_on key left0 left left' walk taken room s fits is_room t = record {
+  bytes = s.bytes ++ t.bytes;
+  took = shrank_then left0 left left' s.bytes t.bytes s.took t.took;
+  within = omega (arith, s.count, fits, is_room, t.within, length-append s.bytes t.bytes);
+}
+
+-- an error that isn't this one, whatever the answer was to be
+pub other_stop : {T U : Type 0} (stop fault : Stop) → (IsErrOf {T = T} (Err stop) fault → ⊥) → IsErrOf {T = U} (Err stop) fault → ⊥
+other_stop stop fault not e = not (let same : stop ≡ fault = cc in ap Err same)
+
+-- ---- the walk
 
 pub reads_on : (key : List ℕ) (left0 left left' : Option (List ℕ)) (old new : Walk) (taken n room : ℕ) (s : SoFar key left0 left old taken) → PieceRead key s.bytes left left' new n room → SoFar key left0 left' new (taken + n)
 reads_on key left0 left left' old new taken n room s p = record {

@@ -15,6 +15,17 @@ abbrev pub WhereRead : Option (List ℕ) → Option (List ℕ) → (List ℕ →
 WhereRead (Some log) (Some unread) P = P log
 WhereRead left unread P = Unit {0}
 
+-- a front of what was left was read, of at most so many bytes
+pub record Took (left left' : Option (List ℕ)) (room : ℕ) : Type 0 where
+  pub bytes : List ℕ
+  pub took : Shrank left left' bytes
+  pub within : length bytes ≤ room
+
+-- nothing is left behind a valid log
+abbrev pub Leaves : Result AuditVerdict VerifyFault → Option (List ℕ) → Type 0
+Leaves (Ok (verdicts.Valid lines closed)) unread = IsAtEnd unread
+Leaves result unread = Unit {0}
+
 -- the log is closed where its last line closes it
 abbrev pub is_closed : List (List ℕ) → Bool
 is_closed lines = list_any closes lines

@@ -131,6 +131,8 @@ impl Chain {
         ensures stands { (key : List ℕ) (lines : List (List ℕ)) → StandsBehind key lines self.old
             → OnOk result (StandsBehind key (lines ++ next_line self.old note.now ∷ []) self.new) }
         ensures later { K.keeper_faults keeper.old ≤ K.keeper_faults keeper.new }
+        ensures stayed { OnOk result (K.keeper_faults keeper.new ≡ K.keeper_faults keeper.old) }
+        ensures untouched { (IsErrOf result AppendRefusal.NoMemory → keeper.new ≡ keeper.old) × (IsErrOf result AppendRefusal.Closed → keeper.new ≡ keeper.old) }
         ensures keeper_fault { IsErrOf result AppendRefusal.KeeperFault → Rose (K.keeper_faults keeper.old) (K.keeper_faults keeper.new) }
     {
         if self.ended {

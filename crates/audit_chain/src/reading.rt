@@ -1,8 +1,9 @@
 //! Reading a log once, from its beginning, in memory that doesn't grow with it.
 
-ghost use Rattle.std.specs.Prelude.{◌≡◌, ◌≤◌, ◌<◌, IsErrOf};
+ghost use Rattle.std.specs.Prelude.{◌≡◌, ◌≤◌, ◌<◌, ◌^◌, IsErrOf};
 ghost use Rattle.acra_devices.specs.Causes.{Rose};
 ghost use Rattle.audit_chain.specs.Reads.{ReadsPiece, Ends};
+ghost use Rattle.audit_chain.specs.Verdicts.{Took};
 
 use crate::chain::Chain;
 use crate::stop::Stop;
@@ -22,7 +23,9 @@ fn read_piece<S: Source>(
 ) -> Result<usize, Stop>
     requires { 0 < room }
     ensures reads { ReadsPiece (S.left source.old) (S.left source.new) walk.old walk.new room result }
+    ensures took { Took (S.left source.old) (S.left source.new) room }
     ensures later { S.read_faults source.old ≤ S.read_faults source.new }
+    ensures stayed { (IsErrOf result Stop.ReadFault → ⊥) → S.read_faults source.new ≡ S.read_faults source.old }
     ensures fault { IsErrOf result Stop.ReadFault → Rose (S.read_faults source.old) (S.read_faults source.new) }
 {
     let mut buf = [0; 4096];
@@ -39,7 +42,9 @@ fn read_piece<S: Source>(
 /// Reads a log to its end, and gives the chain behind its lines where all recompute.
 pub fn read_log<S: Source>(alloc: Global, source: &mut S, key: &[u8; 32]) -> Result<Chain, Stop>
     ensures ends { Ends key.now (S.left source.old) (S.left source.new) result }
+    ensures took { Took (S.left source.old) (S.left source.new) (2 ^ 48) }
     ensures later { S.read_faults source.old ≤ S.read_faults source.new }
+    ensures stayed { (IsErrOf result Stop.ReadFault → ⊥) → S.read_faults source.new ≡ S.read_faults source.old }
     ensures fault { IsErrOf result Stop.ReadFault → Rose (S.read_faults source.old) (S.read_faults source.new) }
 {
     let mut walk = Walk::new(alloc, *key);

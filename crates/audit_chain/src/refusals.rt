@@ -27,7 +27,7 @@ pub enum ResumeFault {
     #[error("line {line} of the audit log is longer than 512 bytes")]
     LineTooLong { line: u64 },
     /// 2^48 bytes were read.
-    #[error("the audit log is longer than 2^48 bytes")]
+    #[error("the audit log has 2^48 bytes or more")]
     Spent,
     /// A read failed.
     #[error("reading the audit log failed")]

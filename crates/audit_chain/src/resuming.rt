@@ -1,6 +1,7 @@
-ghost use Rattle.std.specs.Prelude.{◌≡◌, ◌≤◌, IsErrOf};
+ghost use Rattle.std.specs.Prelude.{◌≡◌, ◌≤◌, ◌^◌, OnOk, IsErrOf};
 ghost use Rattle.acra_devices.specs.Causes.{Rose};
-ghost use Rattle.audit_chain.specs.Verdicts.{WhereRead};
+ghost use Rattle.acra_devices.specs.Known.{IsAtEnd};
+ghost use Rattle.audit_chain.specs.Verdicts.{WhereRead, Took};
 ghost use Rattle.audit_chain.specs.Resuming.{Resumed, IsDueTo};
 
 use crate::chain::Chain;
@@ -20,7 +21,10 @@ impl Chain {
     ) -> Result<Chain, ResumeFault>
         ensures found { WhereRead (S.left source.old) (S.left source.new) (Resumed key.now result) }
         ensures exact { WhereRead (S.left source.old) (S.left source.new) (IsDueTo key.now result) }
+        ensures took { Took (S.left source.old) (S.left source.new) (2 ^ 48) }
+        ensures whole { OnOk result (IsAtEnd (S.left source.new)) }
         ensures later { S.read_faults source.old ≤ S.read_faults source.new }
+        ensures stayed { (IsErrOf result ResumeFault.ReadFault → ⊥) → S.read_faults source.new ≡ S.read_faults source.old }
         ensures read_fault { IsErrOf result ResumeFault.ReadFault → Rose (S.read_faults source.old) (S.read_faults source.new) }
     {
         match read_log(alloc, source, key) {

@@ -1,6 +1,6 @@
-ghost use Rattle.std.specs.Prelude.{◌≡◌, ◌≤◌, IsErrOf};
+ghost use Rattle.std.specs.Prelude.{◌≡◌, ◌≤◌, ◌^◌, IsErrOf};
 ghost use Rattle.acra_devices.specs.Causes.{Rose};
-ghost use Rattle.audit_chain.specs.Verdicts.{WhereRead, Found, IsDue};
+ghost use Rattle.audit_chain.specs.Verdicts.{WhereRead, Took, Leaves, Found, IsDue};
 
 use crate::reading::read_log;
 use crate::stop::Stop;
@@ -24,7 +24,7 @@ pub enum VerifyFault {
     #[error("line {line} of the log is longer than 512 bytes")]
     LineTooLong { line: u64 },
     /// 2^48 bytes were read.
-    #[error("the log is longer than 2^48 bytes")]
+    #[error("the log has 2^48 bytes or more")]
     Spent,
     /// A read failed.
     #[error("reading the log failed")]
@@ -42,7 +42,10 @@ pub fn verify<S: Source>(
 ) -> Result<AuditVerdict, VerifyFault>
     ensures found { WhereRead (S.left source.old) (S.left source.new) (Found key.now result) }
     ensures exact { WhereRead (S.left source.old) (S.left source.new) (IsDue key.now result) }
+    ensures took { Took (S.left source.old) (S.left source.new) (2 ^ 48) }
+    ensures whole { Leaves result (S.left source.new) }
     ensures later { S.read_faults source.old ≤ S.read_faults source.new }
+    ensures stayed { (IsErrOf result VerifyFault.ReadFault → ⊥) → S.read_faults source.new ≡ S.read_faults source.old }
     ensures read_fault { IsErrOf result VerifyFault.ReadFault → Rose (S.read_faults source.old) (S.read_faults source.new) }
 {
     match read_log(alloc, source, key) {

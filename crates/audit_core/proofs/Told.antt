@@ -1,6 +1,7 @@
 -- What is known of a file, where it is told.
-use Rattle.std.proofs.Common.{◌≡◌, ℕ, true, List, Option, Some, None, is_some, refl}
-use Rattle.audit_chain.specs.Verdicts.{WhereRead}
+use Rattle.std.proofs.Common.{◌≡◌, ℕ, true, List, [], Option, Some, None, is_some, refl, arith}
+use Rattle.audit_chain.specs.Verdicts.{WhereRead, Took}
+use Rattle.acra_devices.specs.Grows.{shrank_nothing}
 
 -- what follows of each file follows of the told one
 pub where_map : (left left' : Option (List ℕ)) (P Q : List ℕ → Type 0) → ((file : List ℕ) → P file → Q file) → WhereRead left left' P → WhereRead left left' Q
@@ -22,3 +23,7 @@ pub where_both : (left left' : Option (List ℕ)) (P Q : List ℕ → Type 0) �
 where_both (Some file) (Some unread) P Q p q = (p, q)
 where_both None left' P Q p q = tt
 where_both (Some file) None P Q p q = tt
+
+-- a file that wasn't read
+pub took_nothing : (left : Option (List ℕ)) (room : ℕ) → Took left left room
+took_nothing left room = record { bytes = []; took = shrank_nothing left; within = omega arith }

@@ -3,3 +3,4 @@ pub mod Texts
 pub mod Reports
 pub mod Keys
 pub mod Outcomes
+pub mod Untouched

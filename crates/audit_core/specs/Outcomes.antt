@@ -5,6 +5,7 @@ use Rattle.keystore.specs.Rings.{RingState}
 use Rattle.audit_chain.specs.Findings.{Finding, Finds}
 use Rattle.audit_core.specs.Keys.{IsMaster, IsKeystore, NoMaster, NoRing}
 use Rattle.audit_core.specs.Reports.{EndsSo, end_of, Reported}
+use Rattle.audit_core.specs.declared.status.FolderFile.TheVariants as files
 use Rattle.audit_core.specs.declared.status.AuditStatus.{AuditStatus}
 use Rattle.audit_core.specs.declared.status.AuditStatus.TheVariants as ends
 
@@ -16,6 +17,14 @@ pub record GivesKey (master_file ring_file key : List ℕ) : Type 0 where
   pub is_ring : IsKeystore master ring_file ring
   pub is_key : key ≡ ring.audit_key
 
+-- the file has some master key
+abbrev pub HasMaster : List ℕ → Type 0
+HasMaster master_file = (master : List ℕ) × IsMaster master_file master
+
+-- the two files give some audit key
+abbrev pub HasKey : List ℕ → List ℕ → Type 0
+HasKey master_file ring_file = (key : List ℕ) × GivesKey master_file ring_file key
+
 -- the first has a master key, and the second no ring under it
 abbrev pub RingIsBad : List ℕ → List ℕ → Type 0
 RingIsBad master_file ring_file = (master : List ℕ) × IsMaster master_file master × NoRing master ring_file
@@ -25,7 +34,9 @@ abbrev pub Outcome : List ℕ → List ℕ → List ℕ → Option (List ℕ) �
 Outcome master_file ring_file log held held' ends.Usage = Grew held held' []
 Outcome master_file ring_file log held held' ends.BadMaster = NoMaster master_file × Grew held held' []
 Outcome master_file ring_file log held held' ends.RingRefused = RingIsBad master_file ring_file × Grew held held' []
-Outcome master_file ring_file log held held' (ends.ReadFault file) = Grew held held' []
+Outcome master_file ring_file log held held' (ends.ReadFault files.Master) = Grew held held' []
+Outcome master_file ring_file log held held' (ends.ReadFault files.Keystore) = HasMaster master_file × Grew held held' []
+Outcome master_file ring_file log held held' (ends.ReadFault files.Audit) = HasKey master_file ring_file × Grew held held' []
 Outcome master_file ring_file log held held' ends.NoMemory = Grew held held' []
 Outcome master_file ring_file log held held' status = (key : List ℕ) × GivesKey master_file ring_file key × Reported key held held' status log
 

@@ -35,6 +35,14 @@ end_of Finding.Spent = ends.Spent
 abbrev pub EndsSo : AuditStatus → AuditStatus → Type 0
 EndsSo wanted status = (status ≡ wanted) ⊎ (is_fault status ≡ true)
 
+-- nothing is printed before such an end
+abbrev pub is_silent : AuditStatus → Bool
+is_silent ends.Done = false
+is_silent (ends.Broken line) = false
+is_silent (ends.LineTooLong line) = false
+is_silent ends.WriteFault = false
+is_silent status = true
+
 -- an end of verifying and printing
 abbrev pub IsReport : AuditStatus → Type 0
 IsReport ends.Usage = ⊥

@@ -45,7 +45,7 @@ pub enum AuditStatus {
     #[error("NoMemory: out of memory")]
     NoMemory,
     /// 2^48 bytes of the log were read.
-    #[error("Spent: audit is longer than 2^48 bytes")]
+    #[error("Spent: audit has 2^48 bytes or more")]
     Spent,
 }
 

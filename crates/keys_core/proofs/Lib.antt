@@ -1,3 +1,6 @@
 pub mod Limits
 pub mod Runs
 pub mod Again
+pub mod Draws
+pub mod Order
+pub mod Untouched

@@ -50,7 +50,7 @@ drew_one a b s t P p e f = subst (λ (o : Option Stream). Drew (Some s) o P) f (
 pub same_told : {A : Type 0} (o : Option A) (x y : A) → o ≡ Some x → o ≡ Some y → y ≡ x
 same_told {A} o x y e f = let both : ◌≡◌ {A = Option A} (Some y) (Some x) = sym f ∙ e in cc
 
-never : {A : Type 0} → Rose 0 0 → A
+pub never : {A : Type 0} → Rose 0 0 → A
 never r = let zero : 1 ≤ 0 = r in absurd (omega arith)
 
 -- ---- before anything is kept or printed
@@ -134,7 +134,7 @@ worked_run a a' b b' (ends.Refused why) w s t k k' h h' c f = (f.0, (refl, f.1))
 worked_run a a' b b' (ends.ReadFault file) w s t k k' h h' c f = absurd c
 worked_run a a' b b' ends.WriteFault w s t k k' h h' c f = (refl, f)
 worked_run a a' b b' ends.NoMemory w s t k k' h h' c f = absurd c
-worked_run a a' b b' ends.KeeperFault w s t k k' h h' c f = (refl, f)
+worked_run a a' b b' ends.KeeperFault w s t k k' h h' c f = (f.0, (refl, f.1))
 worked_run a a' b b' ends.RandomFault w s t k k' h h' c f = absurd c
 
 pub finish_run : (a a' b b' : ℕ) (status : KeysStatus) (w : Work) (run : Run) (s t : Stream) (k k' : List (List ℕ)) (h h' : List ℕ) → FinishCaused status a a' b b' → run ≡ worked (w, t) → FinishedAs status w k k' h h' → IsRun status run s t k k' h h'

@@ -1,5 +1,5 @@
 -- A ring that is kept reads back.
-use Rattle.std.specs.Prelude.{ℕ, ◌≡◌, Bool, true, false, List, [], ◌∷◌, Some, IsSomeAnd, Ok}
+use Rattle.std.specs.Prelude.{ℕ, ◌≡◌, ◌&&◌, Bool, true, false, List, [], ◌∷◌, Some, IsSomeAnd, Ok}
 use Rattle.acra_crypto.specs.Gcm.{aes256_gcm}
 use Rattle.keystore.specs.Rings.{RingState}
 use Rattle.ring_file.specs.Files.{SpellsRing}
@@ -7,6 +7,7 @@ use Rattle.ring_file.specs.Master.{master_of}
 use Rattle.keys_core.specs.declared.words.Ask.{Ask}
 use Rattle.keys_core.specs.declared.words.Ask.TheVariants as asks
 use Rattle.keys_core.specs.declared.work.Work.{Work}
+use Rattle.keys_core.specs.declared.work.Outcome.{Outcome}
 use Rattle.keys_core.specs.declared.work.Outcome.TheVariants as outcomes
 use Rattle.keys_core.specs.Work.{read_file}
 
@@ -22,6 +23,14 @@ changes (asks.Generate who) = true
 changes asks.ListKeys = false
 changes (asks.Destroy who id) = true
 changes asks.Check = false
+
+abbrev pub is_done : Outcome → Bool
+is_done outcomes.Done = true
+is_done (outcomes.Refused why) = false
+
+-- whether the ring is another after this outcome
+abbrev pub changed_ring : Ask → Outcome → Bool
+changed_ring ask outcome = changes ask && is_done outcome
 
 -- there is a file, and it reads back
 abbrev pub HasFile : List ℕ → Work → Type 0

@@ -4,4 +4,7 @@ pub mod Lines
 pub mod Work
 pub mod Again
 pub mod Told
+pub mod Draws
+pub mod Untouched
+pub mod Order
 pub mod Runs

@@ -1,5 +1,5 @@
 -- A run of the key tool over its devices.
-use Rattle.std.specs.Prelude.{ℕ, ◌≡◌, ◌<◌, true, List, [], ◌∷◌, ◌++◌, length, Option, Some, None, is_some, Result, Ok, Err}
+use Rattle.std.specs.Prelude.{ℕ, ◌≡◌, ◌<◌, ◌≤◌, true, List, [], ◌∷◌, ◌++◌, length, Option, Some, None, is_some, Result, Ok, Err}
 use Rattle.rand_core.specs.Stream.{Stream}
 use Rattle.acra_devices.specs.Causes.{Rose}
 use Rattle.keys_core.specs.declared.status.KeyFile.TheVariants as files
@@ -18,6 +18,10 @@ CausedBy ends.KeeperFault m m' r r' k k' d d' w w' = Rose k k'
 CausedBy ends.RandomFault m m' r r' k k' d d' w w' = Rose d d'
 CausedBy ends.WriteFault m m' r r' k k' d d' w w' = Rose w w'
 CausedBy status m m' r r' k k' d d' w w' = Unit {0}
+
+-- no count falls
+abbrev pub NoneFell : ℕ → ℕ → ℕ → ℕ → ℕ → ℕ → ℕ → ℕ → ℕ → ℕ → Type 0
+NoneFell m m' r r' k k' d d' w w' = (m ≤ m') × ((r ≤ r') × ((k ≤ k') × ((d ≤ d') × (w ≤ w'))))
 
 -- what comes before anything is kept or printed: only these, and each fault where its count rose
 abbrev pub StopCaused : KeysStatus → ℕ → ℕ → ℕ → ℕ → ℕ → ℕ → Type 0
@@ -70,7 +74,7 @@ pub record FrontPrinted (line h h' : List ℕ) : Type 0 where
   pub printed : h' ≡ h ++ front
 
 abbrev pub FinishedAs : KeysStatus → Work → List (List ℕ) → List (List ℕ) → List ℕ → List ℕ → Type 0
-FinishedAs ends.KeeperFault work k k' h h' = (k' ≡ k) × (h' ≡ h)
+FinishedAs ends.KeeperFault work k k' h h' = (is_some work.file ≡ true) × ((k' ≡ k) × (h' ≡ h))
 FinishedAs ends.WriteFault work k k' h h' = IsKept work.file k k' × FrontPrinted work.line h h'
 FinishedAs status work k k' h h' = (status ≡ status_of work.outcome) × (IsKept work.file k k' × (h' ≡ h ++ work.line))
 
@@ -84,13 +88,13 @@ WhereTold m m' r r' k k' s s' h h' P =
     → m ≡ Some master → is_some m' ≡ true → r ≡ Some ring → is_some r' ≡ true → s ≡ Some coming → s' ≡ Some coming' → k ≡ Some kept → k' ≡ Some kept' → h ≡ Some held → h' ≡ Some held'
     → P master ring coming coming' kept kept' held held'
 
--- nothing is kept or printed at a fault before that; at a failed write the ring is kept, and a front of its line is
--- printed; else all is as the files, the words and the random bytes have it
+-- nothing is kept or printed at a fault before that; a keeper can fail only where there is a piece to keep; at a failed
+-- write the ring is kept, and a front of its line is printed; else all is as the files, the words and the random bytes have it
 abbrev pub IsRun : KeysStatus → Run → Stream → Stream → List (List ℕ) → List (List ℕ) → List ℕ → List ℕ → Type 0
 IsRun ends.Usage run s t k k' h h' = ⊥
 IsRun (ends.ReadFault file) run s t k k' h h' = (t ≡ s) × ((k' ≡ k) × (h' ≡ h))
 IsRun ends.RandomFault run s t k k' h h' = (k' ≡ k) × (h' ≡ h)
 IsRun ends.NoMemory run s t k k' h h' = (k' ≡ k) × (h' ≡ h)
-IsRun ends.KeeperFault run s t k k' h h' = (t ≡ run.coming) × ((k' ≡ k) × (h' ≡ h))
+IsRun ends.KeeperFault run s t k k' h h' = (is_some run.piece ≡ true) × ((t ≡ run.coming) × ((k' ≡ k) × (h' ≡ h)))
 IsRun ends.WriteFault run s t k k' h h' = (t ≡ run.coming) × (IsKept run.piece k k' × FrontPrinted run.line h h')
 IsRun status run s t k k' h h' = (status ≡ run.status) × ((t ≡ run.coming) × (IsKept run.piece k k' × (h' ≡ h ++ run.line)))

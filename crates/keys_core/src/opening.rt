@@ -1,9 +1,11 @@
-ghost use Rattle.std.specs.Prelude.{◌≡◌, ◌≤◌, [], take, drop, IfOk, IfErr};
+ghost use Rattle.std.specs.Prelude.{◌≡◌, ◌≤◌, ◌==◌, ◌&&◌, [], false, length, take, drop, IfOk, IfErr, OnOk};
 ghost use Rattle.acra_devices.specs.Causes.{Rose};
 ghost use Rattle.keystore.specs.Rings.{RingState};
 ghost use Rattle.ring_file.specs.Form.{IsFileRing};
 ghost use Rattle.keys_core.specs.Work.{new_ring, made_or_read, read_file};
 ghost use Rattle.keys_core.specs.Told.{Drew, OpensAs};
+ghost use Rattle.keys_core.specs.Draws.{OpensBy, OpenDrew};
+ghost use Rattle.keys_core.specs.Untouched.{ShutUntouched};
 ghost use Rattle.keys_core.specs.declared.opening.Shut.TheVariants as shut;
 
 use crate::status::RingTrouble;
@@ -46,8 +48,13 @@ pub fn open_ring<R: Random>(
     random: &mut R,
 ) -> Result<Ring, Shut>
     ensures opened { Drew (R.coming random.old) (R.coming random.new) (λ s t. OpensAs result t (made_or_read makes master.now bytes.now s)) }
+    ensures ring { OpensBy (makes && (length bytes.now == 0)) (read_file master.now bytes.now) result }
+    ensures drawn { OpenDrew (makes && (length bytes.now == 0)) result (R.coming random.old) (R.coming random.new) }
+    ensures still { makes ≡ false → random.new ≡ random.old }
+    ensures refused { IfErr result (λ why. ShutUntouched why random.old random.new) }
     ensures rules { IfOk result (λ ring. IsFileRing ring) }
     ensures later { R.draw_faults random.old ≤ R.draw_faults random.new }
+    ensures stayed { OnOk result (R.draw_faults random.new ≡ R.draw_faults random.old) }
     ensures cause { IfErr result (λ why. why ≡ shut.RandomFault → Rose (R.draw_faults random.old) (R.draw_faults random.new)) }
 {
     if makes && bytes.is_empty() {

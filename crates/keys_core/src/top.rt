@@ -1,10 +1,13 @@
-ghost use Rattle.std.specs.Prelude.{◌≡◌, ◌≤◌, ◌↔◌, ℕ, List, map, string_bytes, true, Option, Some, None, is_some, IfOk, IfErr, MatchResult};
+ghost use Rattle.std.specs.Prelude.{◌≡◌, ◌≤◌, ◌↔◌, ℕ, List, map, string_bytes, true, false, Option, Some, None, is_some, IfOk, IfErr, MatchResult};
 ghost use Rattle.rand_core.specs.Stream.{Stream};
 ghost use Rattle.keys_core.specs.Words.{asked};
 ghost use Rattle.ring_file.specs.Master.{master_of};
 ghost use Rattle.keys_core.specs.Work.{makes_ring, made_or_read, run_with, run_of};
-ghost use Rattle.keys_core.specs.Again.{changes, HasFile, MakesFile, KeepsRing};
-ghost use Rattle.keys_core.specs.Runs.{CausedBy, StopCaused, FinishCaused, MasterAs, PreparedAs, IsKept, FinishedAs, WhereTold, IsRun};
+ghost use Rattle.keys_core.specs.Again.{changes, is_done, changed_ring, HasFile, MakesFile, KeepsRing};
+ghost use Rattle.keys_core.specs.Runs.{CausedBy, NoneFell, StopCaused, FinishCaused, MasterAs, PreparedAs, IsKept, FinishedAs, WhereTold, IsRun};
+ghost use Rattle.keys_core.specs.Untouched.{Untouched, StopUntouched, WorkUntouched, FinishUntouched, CountsStay};
+ghost use Rattle.keys_core.specs.Order.{MasterFirst};
+ghost use Rattle.keys_core.specs.Draws.{ring_draws, draws_of, DrawnAs, PreparedDrew};
 ghost use Rattle.acra_devices.specs.Causes.{HasCause};
 ghost use Rattle.keys_core.specs.declared.words.Ask.{Ask};
 ghost use Rattle.keys_core.specs.declared.status.KeysStatus.TheVariants as ends;
@@ -37,6 +40,7 @@ fn makes_ring(ask: &Ask) -> bool
 fn master_key<S: Source>(alloc: Global, master: &mut S) -> Result<[u8; 32], KeysStatus>
     ensures key { (m : List ℕ) → S.left master.old ≡ Some m → is_some (S.left master.new) ≡ true → MasterAs result (master_of m) }
     ensures cause { IfErr result (λ status. StopCaused status (S.read_faults master.old) (S.read_faults master.new) 0 0 0 0) }
+    ensures later { S.read_faults master.old ≤ S.read_faults master.new }
 {
     match read_master(alloc, master) {
         Ok(key) => Ok(key),
@@ -57,9 +61,14 @@ fn worked<R: Random>(
     random: &mut R,
 ) -> Result<Work, KeysStatus>
     ensures run { (s t : Stream) → R.coming random.old ≡ Some s → R.coming random.new ≡ Some t → PreparedAs result (run_with ask.now key.now (made_or_read (makes_ring ask.now) key.now bytes.now s)) s t }
+    ensures drawn { PreparedDrew result (ring_draws ask.now key.now bytes.now) (R.coming random.old) (R.coming random.new) }
+    ensures untouched { IfErr result (λ status. WorkUntouched status random.old random.new) }
+    ensures still { changes ask.now ≡ false → random.new ≡ random.old }
+    ensures file { IfOk result (λ w. is_some w.file ≡ changed_ring ask.now w.outcome) }
     ensures kept { changes ask.now ≡ true → IfOk result (λ w. MakesFile key.now w) }
     ensures cause { IfErr result (λ status. StopCaused status 0 0 0 0 (R.draw_faults random.old) (R.draw_faults random.new)) }
     ensures later { R.draw_faults random.old ≤ R.draw_faults random.new }
+    ensures stayed { MatchResult result (λ _. R.draw_faults random.new ≡ R.draw_faults random.old) (λ status. CountsStay status 0 0 (R.draw_faults random.old) (R.draw_faults random.new) 0 0) }
 {
     match open_ring(alloc, makes_ring(ask), key, bytes, random) {
         Ok(opened) => {
@@ -87,8 +96,16 @@ fn prepare<S: Source, T: Source, R: Random>(
 ) -> Result<Work, KeysStatus>
     ensures run { (m r : List ℕ) (s t : Stream) → S.left master.old ≡ Some m → is_some (S.left master.new) ≡ true → T.left ring.old ≡ Some r → is_some (T.left ring.new) ≡ true
         → R.coming random.old ≡ Some s → R.coming random.new ≡ Some t → PreparedAs result (run_of ask.now m r s) s t }
+    ensures drawn { (m r : List ℕ) → S.left master.old ≡ Some m → is_some (S.left master.new) ≡ true → T.left ring.old ≡ Some r → is_some (T.left ring.new) ≡ true
+        → PreparedDrew result (draws_of ask.now m r) (R.coming random.old) (R.coming random.new) }
+    ensures order { (m : List ℕ) → S.left master.old ≡ Some m → is_some (S.left master.new) ≡ true → MatchResult result (λ _. is_some (master_of m) ≡ true) (λ status. MasterFirst status (master_of m)) }
+    ensures untouched { IfErr result (λ status. StopUntouched status ring.old ring.new random.old random.new) }
+    ensures still { changes ask.now ≡ false → random.new ≡ random.old }
+    ensures file { IfOk result (λ w. is_some w.file ≡ changed_ring ask.now w.outcome) }
     ensures kept { (m : List ℕ) → S.left master.old ≡ Some m → is_some (S.left master.new) ≡ true → changes ask.now ≡ true → IfOk result (λ w. (key : List ℕ) × ((master_of m ≡ Some key) × MakesFile key w)) }
     ensures cause { IfErr result (λ status. StopCaused status (S.read_faults master.old) (S.read_faults master.new) (T.read_faults ring.old) (T.read_faults ring.new) (R.draw_faults random.old) (R.draw_faults random.new)) }
+    ensures later { (S.read_faults master.old ≤ S.read_faults master.new) × ((T.read_faults ring.old ≤ T.read_faults ring.new) × (R.draw_faults random.old ≤ R.draw_faults random.new)) }
+    ensures stayed { MatchResult result (λ _. R.draw_faults random.new ≡ R.draw_faults random.old) (λ status. CountsStay status 0 0 (R.draw_faults random.old) (R.draw_faults random.new) 0 0) }
 {
     match master_key(alloc, master) {
         Ok(key) => match read_file(alloc, ring, RING_LIMIT) {
@@ -108,6 +125,8 @@ fn prepare<S: Source, T: Source, R: Random>(
 /// Keeps the changed ring, if there is one.
 fn keep<K: Keeper>(file: &Option<Bytes>, keeper: &mut K) -> Result<(), Failed>
     ensures kept { (k k' : List (List ℕ)) → K.kept keeper.old ≡ Some k → K.kept keeper.new ≡ Some k' → MatchResult result (λ _. IsKept file.now k k') (λ _. k' ≡ k) }
+    ensures still { is_some file.now ≡ false → keeper.new ≡ keeper.old }
+    ensures piece { IfErr result (λ _. is_some file.now ≡ true) }
     ensures cause { HasCause (K.keeper_faults keeper.old) (K.keeper_faults keeper.new) result }
 {
     match file {
@@ -121,7 +140,11 @@ fn finish<K: Keeper, W: Sink>(work: &Work, keeper: &mut K, output: &mut W) -> Ke
     ensures done { (k k' : List (List ℕ)) (h h' : List ℕ) → K.kept keeper.old ≡ Some k → K.kept keeper.new ≡ Some k' → W.held output.old ≡ Some h → W.held output.new ≡ Some h'
         → FinishedAs result work.now k k' h h' }
     ensures kept { result ≡ ends.Done → (k k' : List (List ℕ)) → K.kept keeper.old ≡ Some k → K.kept keeper.new ≡ Some k' → (work.now.outcome ≡ outcomes.Done) × IsKept work.now.file k k' }
+    ensures untouched { FinishUntouched result (is_done work.now.outcome) output.old output.new }
+    ensures still { is_some work.now.file ≡ false → keeper.new ≡ keeper.old }
     ensures cause { FinishCaused result (K.keeper_faults keeper.old) (K.keeper_faults keeper.new) (W.write_faults output.old) (W.write_faults output.new) }
+    ensures later { (K.keeper_faults keeper.old ≤ K.keeper_faults keeper.new) × (W.write_faults output.old ≤ W.write_faults output.new) }
+    ensures stayed { CountsStay result (K.keeper_faults keeper.old) (K.keeper_faults keeper.new) 0 0 (W.write_faults output.old) (W.write_faults output.new) }
 {
     match keep(&work.file, keeper) {
         Err(_) => KeysStatus::KeeperFault,
@@ -151,10 +174,18 @@ pub fn keys_top<S: Source, T: Source, K: Keeper, R: Random, W: Sink>(
     ensures exact { (ask : Ask) → asked (map string_bytes words.now) ≡ Some ask → WhereTold (S.left master.old) (S.left master.new) (T.left ring.old) (T.left ring.new)
         (K.kept keeper.old) (K.kept keeper.new) (R.coming random.old) (R.coming random.new) (W.held output.old) (W.held output.new)
         (λ m r. λ s. IsRun result (run_of ask m r s) s) }
+    ensures untouched { Untouched result master.old master.new ring.old ring.new keeper.old keeper.new random.old random.new output.old output.new }
+    ensures unchanged { (ask : Ask) → asked (map string_bytes words.now) ≡ Some ask → changes ask ≡ false → (keeper.new ≡ keeper.old) × (random.new ≡ random.old) }
+    ensures order { (m : List ℕ) → S.left master.old ≡ Some m → is_some (S.left master.new) ≡ true → MasterFirst result (master_of m) }
+    ensures drawn { (ask : Ask) (m r : List ℕ) → asked (map string_bytes words.now) ≡ Some ask → S.left master.old ≡ Some m → is_some (S.left master.new) ≡ true
+        → T.left ring.old ≡ Some r → is_some (T.left ring.new) ≡ true → DrawnAs result (draws_of ask m r) (R.coming random.old) (R.coming random.new) }
     ensures reads_back { (ask : Ask) (m : List ℕ) (k k' : List (List ℕ)) → asked (map string_bytes words.now) ≡ Some ask → changes ask ≡ true → result ≡ ends.Done → S.left master.old ≡ Some m → is_some (S.left master.new) ≡ true
         → K.kept keeper.old ≡ Some k → K.kept keeper.new ≡ Some k' → KeepsRing m k' }
     ensures cause { CausedBy result (S.read_faults master.old) (S.read_faults master.new) (T.read_faults ring.old) (T.read_faults ring.new) (K.keeper_faults keeper.old) (K.keeper_faults keeper.new)
         (R.draw_faults random.old) (R.draw_faults random.new) (W.write_faults output.old) (W.write_faults output.new) }
+    ensures later { NoneFell (S.read_faults master.old) (S.read_faults master.new) (T.read_faults ring.old) (T.read_faults ring.new) (K.keeper_faults keeper.old) (K.keeper_faults keeper.new)
+        (R.draw_faults random.old) (R.draw_faults random.new) (W.write_faults output.old) (W.write_faults output.new) }
+    ensures stayed { CountsStay result (K.keeper_faults keeper.old) (K.keeper_faults keeper.new) (R.draw_faults random.old) (R.draw_faults random.new) (W.write_faults output.old) (W.write_faults output.new) }
 {
     match ask_of(words) {
         None => KeysStatus::Usage,

@@ -1,12 +1,16 @@
-ghost use Rattle.std.specs.Prelude.{◌≡◌, ◌≤◌, ◌++◌, take, drop, codes, true, Some, None, IfOk, IfErr};
+ghost use Rattle.std.specs.Prelude.{◌≡◌, ◌≤◌, [], ◌∷◌, ◌++◌, take, drop, codes, true, false, Some, None, is_some, IfOk, IfErr};
 ghost use Rattle.acra_devices.specs.Causes.{Rose};
 ghost use Rattle.keys_core.specs.Work.{refused, changed_by, shown, new_keys, generated, destroyed_by, work_of};
 ghost use Rattle.keystore.specs.Answers.{retire_refusal};
 ghost use Rattle.keystore.specs.Kept.{IsKept};
 ghost use Rattle.ring_file.specs.Form.{IsFileRing};
-ghost use Rattle.keys_core.specs.Again.{changes, HasFile, MakesFile};
+ghost use Rattle.keys_core.specs.Again.{changes, is_done, changed_ring, HasFile, MakesFile};
 ghost use Rattle.keys_core.specs.Told.{Drew};
+ghost use Rattle.keys_core.specs.Draws.{nonce_unless, work_draws, WorkDrew};
+ghost use Rattle.keys_core.specs.Untouched.{WorkCount};
+ghost use Rattle.keystore.specs.Answers.{add_refusal};
 ghost use Rattle.keys_core.specs.declared.work.Stop.TheVariants as stop;
+ghost use Rattle.keys_core.specs.declared.work.Outcome.TheVariants as outcomes;
 
 use crate::lines::{count_line, key_line, key_lines, refused_line};
 use crate::status::Refusal;
@@ -65,6 +69,7 @@ fn refused(alloc: Global, why: Refusal) -> Result<Work, Stop>
 fn shown(line: Result<Vec<u8>, NoMemory>) -> Result<Work, Stop>
     ensures done { IfOk line (λ text. IfOk result (λ w. w ≡ shown text.items)) }
     ensures short { IfErr line (λ _. IfOk result (λ w. ⊥)) }
+    ensures file { IfOk result (λ w. w.file ≡ None) }
     ensures stopped { IfErr result (λ e. e ≡ stop.NoMemory) }
 {
     match line {
@@ -87,8 +92,11 @@ fn changed<R: Random>(
 ) -> Result<Work, Stop>
     ensures done { IfOk result (λ w. Drew (R.coming random.old) (R.coming random.new)
         (λ s t. (w, t) ≡ changed_by line.items master.now ring.now s)) }
+    ensures drawn { WorkDrew result (12 ∷ []) (R.coming random.old) (R.coming random.new) }
+    ensures file { IfOk result (λ w. (w.outcome ≡ outcomes.Done) × (is_some w.file ≡ true)) }
     ensures kept { (IsKept ring.now → IsFileRing ring.now) → IfOk result (λ w. HasFile master.now w) }
     ensures later { R.draw_faults random.old ≤ R.draw_faults random.new }
+    ensures stayed { WorkCount result (R.draw_faults random.old) (R.draw_faults random.new) }
     ensures cause { IfErr result (λ why. why ≡ stop.RandomFault → Rose (R.draw_faults random.old) (R.draw_faults random.new)) }
 {
     let mut nonce = [0; 12];
@@ -125,8 +133,11 @@ fn generate<R: Random>(
     random: &mut R,
 ) -> Result<Work, Stop>
     ensures done { IfOk result (λ w. Drew (R.coming random.old) (R.coming random.new) (λ s t. (w, t) ≡ generated who.now master.now ring.old s)) }
+    ensures drawn { WorkDrew result (64 ∷ nonce_unless (add_refusal ring.old who.now)) (R.coming random.old) (R.coming random.new) }
+    ensures file { IfOk result (λ w. is_some w.file ≡ is_done w.outcome) }
     ensures kept { IsFileRing ring.old → IfOk result (λ w. MakesFile master.now w) }
     ensures later { R.draw_faults random.old ≤ R.draw_faults random.new }
+    ensures stayed { WorkCount result (R.draw_faults random.old) (R.draw_faults random.new) }
     ensures cause { IfErr result (λ why. why ≡ stop.RandomFault → Rose (R.draw_faults random.old) (R.draw_faults random.new)) }
 {
     let mut drawn = [0; 64];
@@ -154,8 +165,11 @@ fn destroy<R: Random>(
     random: &mut R,
 ) -> Result<Work, Stop>
     ensures done { IfOk result (λ w. Drew (R.coming random.old) (R.coming random.new) (λ s t. (w, t) ≡ destroyed_by (retire_refusal ring.old who.now id) who.now id master.now ring.old s)) }
+    ensures drawn { WorkDrew result (nonce_unless (retire_refusal ring.old who.now id)) (R.coming random.old) (R.coming random.new) }
+    ensures file { IfOk result (λ w. is_some w.file ≡ is_done w.outcome) }
     ensures kept { IsFileRing ring.old → IfOk result (λ w. MakesFile master.now w) }
     ensures later { R.draw_faults random.old ≤ R.draw_faults random.new }
+    ensures stayed { WorkCount result (R.draw_faults random.old) (R.draw_faults random.new) }
     ensures cause { IfErr result (λ why. why ≡ stop.RandomFault → Rose (R.draw_faults random.old) (R.draw_faults random.new)) }
 {
     match ring.retire(who, id) {
@@ -179,8 +193,12 @@ pub fn done_work<R: Random>(
     random: &mut R,
 ) -> Result<Work, Stop>
     ensures done { IfOk result (λ w. Drew (R.coming random.old) (R.coming random.new) (λ s t. (w, t) ≡ work_of ask.now master.now ring.old s)) }
+    ensures drawn { WorkDrew result (work_draws ask.now ring.old) (R.coming random.old) (R.coming random.new) }
+    ensures file { IfOk result (λ w. is_some w.file ≡ changed_ring ask.now w.outcome) }
+    ensures still { changes ask.now ≡ false → random.new ≡ random.old }
     ensures kept { IsFileRing ring.old → changes ask.now ≡ true → IfOk result (λ w. MakesFile master.now w) }
     ensures later { R.draw_faults random.old ≤ R.draw_faults random.new }
+    ensures stayed { WorkCount result (R.draw_faults random.old) (R.draw_faults random.new) }
     ensures cause { IfErr result (λ why. why ≡ stop.RandomFault → Rose (R.draw_faults random.old) (R.draw_faults random.new)) }
 {
     match ask {

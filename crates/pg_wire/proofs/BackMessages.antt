@@ -54,7 +54,7 @@ state_of b e =
       | inr h ↦ inr (inr (eqb-true _ _ h))
     ]
 
-state_takes : (body : List ℕ) (x : ℕ × List ℕ) → IsBytes body → state_at body ≡ Ok x → IsState x.0 × Takes body (x.0 ∷ []) x.1
+pub state_takes : (body : List ℕ) (x : ℕ × List ℕ) → IsBytes body → state_at body ≡ Ok x → IsState x.0 × Takes body (x.0 ∷ []) x.1
 unfolding state_at
 state_takes [] x fits e = absurd cc
 state_takes (b ∷ body) x fits e = by (is_state b) (state_of b) e where

@@ -42,7 +42,7 @@ unfolding target_at
 target_again targets.Prepared rest is = refl
 target_again targets.Portal rest is = refl
 
-target_item : IsItem target_at (λ x. target_byte x ∷ []) (λ x. Unit {0})
+pub target_item : IsItem target_at (λ x. target_byte x ∷ []) (λ x. Unit {0})
 target_item = record { takes = target_takes; again = target_again }
 
 parse_item : IsItem (str_at followed_by str_at followed_by counted_at (be_number_at w32)) (λ x. str x.0.0 ++ str x.0.1 ++ counted_items (to_be_bytes w32) x.1) (λ x. (IsText x.0.0 × IsText x.0.1) × AreCounted IsWord x.1)

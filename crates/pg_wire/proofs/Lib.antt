@@ -13,4 +13,11 @@ pub mod Within
 pub mod Readings
 pub mod FrameLaws
 pub mod OneMessage
+pub mod RunLaws
+pub mod Placing
+pub mod ListPlaces
+pub mod FieldPlaces
+pub mod FaultPlaces
+pub mod FrontPlaces
+pub mod BackPlaces
 pub mod Unfinished

@@ -80,7 +80,7 @@ abbrev column : List ℕ → ℕ → ℕ → ℕ → ℕ → ℕ → ℕ → Lis
 column name table attribute kind size modifier format =
     str name ++ (to_be_bytes w32 table ++ (to_be_bytes w16 attribute ++ (to_be_bytes w32 kind ++ (to_be_bytes w16 size ++ (to_be_bytes w32 modifier ++ to_be_bytes w16 format)))))
 
-regroup7 : (a b c d e f g : List ℕ) → a ++ b ++ c ++ d ++ e ++ f ++ g ≡ a ++ (b ++ (c ++ (d ++ (e ++ (f ++ g)))))
+pub regroup7 : (a b c d e f g : List ℕ) → a ++ b ++ c ++ d ++ e ++ f ++ g ≡ a ++ (b ++ (c ++ (d ++ (e ++ (f ++ g)))))
 regroup7 a b c d e f g = simp append_assoc
 
 regroup8 : (a b c d e f g h : List ℕ) → (a ++ b ++ c ++ d ++ e ++ f ++ g) ++ h ≡ a ++ (b ++ (c ++ (d ++ (e ++ (f ++ (g ++ h))))))
@@ -90,10 +90,10 @@ column_is : (f : Field) → column f.name f.table f.attribute f.kind (cast_unsig
 column_is f =
     sym (regroup7 (str f.name) (to_be_bytes w32 f.table) (to_be_bytes w16 f.attribute) (to_be_bytes w32 f.kind) (to_be_bytes w16 (cast_unsigned w16 f.size)) (to_be_bytes w32 (cast_unsigned w32 f.modifier)) (to_be_bytes w16 f.format))
 
-fits16 : (n : ℕ) → n < 2 ^ 16 → FitsSigned w16 (cast_signed w16 n)
+pub fits16 : (n : ℕ) → n < 2 ^ 16 → FitsSigned w16 (cast_signed w16 n)
 fits16 n lt = sfits_to_z (record { fits = lt })
 
-fits32 : (n : ℕ) → n < 2 ^ 32 → FitsSigned w32 (cast_signed w32 n)
+pub fits32 : (n : ℕ) → n < 2 ^ 32 → FitsSigned w32 (cast_signed w32 n)
 fits32 n lt = sfits_to_z (record { fits = lt })
 
 field_takes : (bytes : List ℕ) (x : Field × List ℕ) → IsBytes bytes → field_at bytes ≡ Ok x → Takes bytes (field_bytes x.0) x.1 × IsField x.0

@@ -22,7 +22,7 @@ pair_within bytes =
     within_bind (length bytes) (str_at bytes) (λ name. str_at name.1 >>= λ value. Ok (record { name = name.0; value = value.0 }, value.1)) (str_within bytes)
     (λ name. within_bind (length name.1) (str_at name.1) (λ value. Ok (record { name = name.0; value = value.0 }, value.1)) (str_within name.1) (λ value. omega arith))
 
-format_within : (bytes : List ℕ) → Within (length bytes) (format_at bytes)
+pub format_within : (bytes : List ℕ) → Within (length bytes) (format_at bytes)
 unfolding format_at
 format_within bytes = by (be_number_at w16 bytes) (be_number_within w16 bytes) where
   by : (r : Result (ℕ × List ℕ) ℕ) → Within (length bytes) r → Within (length bytes) (r >>= λ n. cond (ltb n.0 2) (Ok n) (Err (length bytes)))
@@ -57,7 +57,7 @@ error_within (code ∷ bytes) =
     within_more (length bytes) (length (code ∷ bytes)) (str_at bytes >>= λ text. Ok (record { code = code; text = text.0 }, text.1)) (omega arith)
     (within_bind (length bytes) (str_at bytes) (λ text. Ok (record { code = code; text = text.0 }, text.1)) (str_within bytes) (λ text. omega arith))
 
-state_within : (bytes : List ℕ) → Within (length bytes) (state_at bytes)
+pub state_within : (bytes : List ℕ) → Within (length bytes) (state_at bytes)
 unfolding state_at
 state_within [] = omega arith
 state_within (b ∷ bytes) = within_cond (length (b ∷ bytes)) ((eqb b 73 || eqb b 84) || eqb b 69) (Ok (b, bytes)) (Err (length (b ∷ bytes))) (omega arith) (omega arith)
@@ -85,11 +85,11 @@ ended_within item is (suc n) (suc b ∷ bytes) =
 listed_within : {A : Type 0} (item : List ℕ → Result (A × List ℕ) ℕ) → ((bytes : List ℕ) → Within (length bytes) (item bytes)) → (bytes : List ℕ) → Within (length bytes) (listed_at item bytes)
 listed_within item is bytes = ended_within item is (length bytes) bytes
 
-auth_within : (bytes : List ℕ) → Within (length bytes) (auth_at bytes)
+pub auth_within : (bytes : List ℕ) → Within (length bytes) (auth_at bytes)
 unfolding auth_at
 auth_within bytes = within_bind (length bytes) (be_number_at w32 bytes) (λ code. Ok (backs.Auth code.0 code.1, [])) (be_number_within w32 bytes) (λ code. omega arith)
 
-key_data_within : (bytes : List ℕ) → Within (length bytes) (key_data_at bytes)
+pub key_data_within : (bytes : List ℕ) → Within (length bytes) (key_data_at bytes)
 unfolding key_data_at
 key_data_within bytes =
     within_bind (length bytes) (be_number_at w32 bytes) (λ process. be_number_at w32 process.1 >>= λ key. Ok (backs.KeyData process.0 key.0, key.1)) (be_number_within w32 bytes) (λ process.
@@ -133,7 +133,7 @@ both_within a b wa wb bytes =
     within_bind (length bytes) (a bytes) (λ first. b first.1 >>= λ second. Ok ((first.0, second.0), second.1)) (wa bytes) (λ first.
     within_bind (length first.1) (b first.1) (λ second. Ok ((first.0, second.0), second.1)) (wb first.1) (λ second. omega arith))
 
-startup_within : (bytes : List ℕ) → Within (length bytes) (startup_at bytes)
+pub startup_within : (bytes : List ℕ) → Within (length bytes) (startup_at bytes)
 unfolding startup_at
 startup_within bytes = by (be_number_at w32 bytes) (be_number_within w32 bytes) where
   by : (r : Result (ℕ × List ℕ) ℕ) → Within (length bytes) r → Within (length bytes) (r >>= coded_at (length bytes))
@@ -166,7 +166,7 @@ bind_within bytes =
     within_mapped (length bytes) (λ x. fronts.Bind x.0.0.0.0 x.0.0.0.1 x.0.0.1 x.0.1 x.1) ((str_at followed_by str_at followed_by counted_at format_at followed_by counted_at cell_at followed_by counted_at format_at) bytes)
     (both_within (str_at followed_by str_at followed_by counted_at format_at followed_by counted_at cell_at) (counted_at format_at) four formats bytes)
 
-target_within : (bytes : List ℕ) → Within (length bytes) (target_at bytes)
+pub target_within : (bytes : List ℕ) → Within (length bytes) (target_at bytes)
 unfolding target_at
 target_within [] = omega arith
 target_within (b ∷ bytes) =

@@ -1,5 +1,6 @@
 pub mod Frames
 pub mod Streams
+pub mod Runs
 pub mod Parts
 pub mod Fronts
 pub mod Backs
@@ -7,3 +8,4 @@ pub mod Reading
 pub mod Heads
 pub mod Bodies
 pub mod Prefixes
+pub mod Places

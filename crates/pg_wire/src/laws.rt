@@ -1,14 +1,17 @@
-ghost use Rattle.std.specs.Prelude.{◌≡◌, ◌<◌, ◌++◌, ℕ, Bool, List, Ok, slice_index};
+ghost use Rattle.std.specs.Prelude.{◌≡◌, ◌<◌, ◌-◌, ◌++◌, ◌⊎◌, ℕ, Bool, List, Ok, Err, length, slice_index};
 ghost use Rattle.pg_wire.specs.declared.frame.Side.{Side};
 ghost use Rattle.pg_wire.specs.declared.frame.FrameFault.{FrameFault};
 ghost use Rattle.pg_wire.specs.declared.front.Front.{Front};
 ghost use Rattle.pg_wire.specs.declared.back.Back.{Back};
 ghost use Rattle.pg_wire.specs.Frames.{frame_bytes, IsFrame, HasFault, IsUnfinished};
+ghost use Rattle.pg_wire.specs.Streams.{Stream, new_stream};
+ghost use Rattle.pg_wire.specs.Runs.{Event, Run, fed_bytes, given, IsSpelled, IsDrained, Begins};
 ghost use Rattle.pg_wire.specs.Fronts.{IsFront, front_kind, front_body};
 ghost use Rattle.pg_wire.specs.Backs.{IsBack, back_kind, back_body};
 ghost use Rattle.pg_wire.specs.Prefixes.{BeginsFrame};
 ghost use Rattle.pg_wire.specs.Bodies.{front_read, back_read};
 ghost use Rattle.pg_wire.specs.Reading.{SpellsFront, SpellsBack};
+ghost use Rattle.pg_wire.specs.Places.{joined, front_fields, back_fields, IsFrontFault, IsBackFault};
 
 /// No frame begins another: a stream begins with one frame at most.
 pub fn one_frame()
@@ -59,4 +62,33 @@ pub fn back_round_trip()
 pub fn unfinished_begins()
     ensures begins { (who : Side) (limit : ℕ) (opening : Bool) (bytes : List ℕ) → ((i : ℕ) → slice_index bytes i < 256) → IsUnfinished who limit opening bytes
         → BeginsFrame who opening bytes }
+{}
+
+/// Whatever the pieces and whenever `next` is called, the frames given out and the bytes left spell what was fed.
+pub fn stream_spelled()
+    ensures spelled { (who : Side) (limit : ℕ) (events : List Event) (t : Stream) → Run (new_stream who limit) events t → IsSpelled who limit events t }
+{}
+
+/// Frames don't depend on how a stream was cut. Of two runs over what one stream begins with, the frames of one begin those of the other; where the
+/// same was fed and neither has a frame left, they are the same.
+pub fn one_stream()
+    ensures begins { (who : Side) (limit : ℕ) (a b : List Event) (s t : Stream) (more : List ℕ) → Run (new_stream who limit) a s → Run (new_stream who limit) b t
+        → fed_bytes b ≡ fed_bytes a ++ more → Begins (given a) (given b) ⊎ Begins (given b) (given a) }
+    ensures same { (who : Side) (limit : ℕ) (a b : List Event) (s t : Stream) → Run (new_stream who limit) a s → Run (new_stream who limit) b t
+        → fed_bytes a ≡ fed_bytes b → IsDrained s → IsDrained t → given a ≡ given b }
+{}
+
+/// A client's message is made of its fields. Where a body can't be read is the end of the longest beginning that whole fields of some message of its
+/// type make, and a body has one such place.
+pub fn front_places()
+    ensures fields { (m : Front) → front_body m ≡ joined (front_fields m) }
+    ensures place { (kind : ℕ) (body : List ℕ) (left : ℕ) → ((i : ℕ) → slice_index body i < 256) → front_read kind body ≡ Err left → IsFrontFault kind body (length body - left) }
+    ensures one { (kind : ℕ) (body : List ℕ) (a b : ℕ) → IsFrontFault kind body a → IsFrontFault kind body b → a ≡ b }
+{}
+
+/// A server's message is made of its fields, and the place where a body can't be read is as for a client's.
+pub fn back_places()
+    ensures fields { (m : Back) → back_body m ≡ joined (back_fields m) }
+    ensures place { (kind : ℕ) (body : List ℕ) (left : ℕ) → ((i : ℕ) → slice_index body i < 256) → back_read kind body ≡ Err left → IsBackFault kind body (length body - left) }
+    ensures one { (kind : ℕ) (body : List ℕ) (a b : ℕ) → IsBackFault kind body a → IsBackFault kind body b → a ≡ b }
 {}

@@ -2,6 +2,7 @@ ghost use Rattle.std.specs.Prelude.{◌≡◌, ℕ, List, IfOk};
 ghost use Rattle.pg_wire.specs.Bodies.{state_at, auth_at, key_data_at, back_at, back_read};
 ghost use Rattle.byte_reader.specs.Readers.{Gives};
 ghost use Rattle.pg_wire.specs.Reading.{SpellsBack, ReadsAs, ReadsExactly};
+ghost use Rattle.pg_wire.specs.Places.{FaultAt, IsBackFault};
 ghost use Rattle.pg_wire.specs.declared.back.Back.{Back};
 
 use crate::back::Back;
@@ -116,6 +117,7 @@ fn exact_back(alloc: Global, kind: u8, body: &[u8]) -> Result<Back, ReadBody>
     ensures found { IfOk result (λ m. SpellsBack kind body.now m) }
     ensures only { (m : Back) → SpellsBack kind body.now m → ReadsAs result m }
     ensures exact { ReadsExactly body.now result (back_read kind body.now) }
+    ensures place { FaultAt result (IsBackFault kind body.now) }
 {
     match whole_back(alloc, kind, body) {
         Ok(message) => Ok(message),
@@ -131,6 +133,7 @@ pub fn read_back(alloc: Global, frame: &Frame) -> Result<Back, ReadBody>
     ensures found { IfOk result (λ m. SpellsBack frame.now.kind frame.now.body m) }
     ensures only { (m : Back) → SpellsBack frame.now.kind frame.now.body m → ReadsAs result m }
     ensures exact { ReadsExactly frame.now.body result (back_read frame.now.kind frame.now.body) }
+    ensures place { FaultAt result (IsBackFault frame.now.kind frame.now.body) }
 {
     exact_back(alloc, frame.kind, frame.body.as_slice())
 }

@@ -2,6 +2,7 @@ ghost use Rattle.std.specs.Prelude.{◌≡◌, ℕ, List, IfOk};
 ghost use Rattle.pg_wire.specs.Bodies.{front_at, front_read};
 ghost use Rattle.byte_reader.specs.Readers.{Gives};
 ghost use Rattle.pg_wire.specs.Reading.{SpellsFront, ReadsAs, ReadsExactly};
+ghost use Rattle.pg_wire.specs.Places.{FaultAt, IsFrontFault};
 ghost use Rattle.pg_wire.specs.declared.front.Front.{Front};
 
 use crate::frame::{Frame, ReadBody};
@@ -52,6 +53,7 @@ fn exact_front(alloc: Global, kind: u8, body: &[u8]) -> Result<Front, ReadBody>
     ensures found { IfOk result (λ m. SpellsFront kind body.now m) }
     ensures only { (m : Front) → SpellsFront kind body.now m → ReadsAs result m }
     ensures exact { ReadsExactly body.now result (front_read kind body.now) }
+    ensures place { FaultAt result (IsFrontFault kind body.now) }
 {
     match whole_front(alloc, kind, body) {
         Ok(message) => Ok(message),
@@ -67,6 +69,7 @@ pub fn read_front(alloc: Global, frame: &Frame) -> Result<Front, ReadBody>
     ensures found { IfOk result (λ m. SpellsFront frame.now.kind frame.now.body m) }
     ensures only { (m : Front) → SpellsFront frame.now.kind frame.now.body m → ReadsAs result m }
     ensures exact { ReadsExactly frame.now.body result (front_read frame.now.kind frame.now.body) }
+    ensures place { FaultAt result (IsFrontFault frame.now.kind frame.now.body) }
 {
     exact_front(alloc, frame.kind, frame.body.as_slice())
 }

@@ -1,6 +1,21 @@
-use Rattle.std.proofs.Common.{arith, refl}
-use Rattle.audit_chain.proofs.Pieces.{reads_on, stopped, ends_here}
+use Rattle.std.proofs.Common.{arith, refl, ◌∙◌}
+use Rattle.audit_chain.proofs.Pieces.{took_so_far, took_on, other_stop, reads_on, stopped, ends_here}
 use Rattle.audit_chain.proofs.reading.read_log.Goals as goal
+
+pub returns-then-taken-ge-READ_LIMIT-clause-took : goal.returns-then-taken-ge-READ_LIMIT-clause-took
+returns-then-taken-ge-READ_LIMIT-clause-took g c = took_so_far c.args.key.now _ _ _ _ c.pieces.invariant.so_far c.pieces.invariant.within
+
+pub returns-in-Err-clause-took : goal.returns-in-Err-clause-took
+returns-in-Err-clause-took g c = took_on c.args.key.now _ _ _ _ _ _ c.pieces.invariant.so_far c.pieces.invariant.within refl c.in-Err.ensures.took
+
+pub returns-in-Err-clause-stayed : goal.returns-in-Err-clause-stayed
+returns-in-Err-clause-stayed g c not = c.in-Err.ensures.stayed (other_stop c.in-Err.stop _ not) ∙ c.pieces.invariant.stayed
+
+pub returns-in-Ok-eq0-clause-took : goal.returns-in-Ok-eq0-clause-took
+returns-in-Ok-eq0-clause-took g c = took_on c.args.key.now _ _ _ _ _ _ c.pieces.invariant.so_far c.pieces.invariant.within refl c.in-Ok-eq0.ensures.took
+
+pub returns-in-Ok-eq0-clause-stayed : goal.returns-in-Ok-eq0-clause-stayed
+returns-in-Ok-eq0-clause-stayed g c not = c.in-Ok-eq0.ensures.stayed (λ e. cc) ∙ c.pieces.invariant.stayed
 
 pub returns-in-Err-clause-ends : goal.returns-in-Err-clause-ends
 returns-in-Err-clause-ends g c =
@@ -27,5 +42,6 @@ pieces-preserved g c =
     record {
       so_far = reads_on c.args.key.now _ _ _ _ _ _ _ _ s p;
       within = omega (arith, p.within, c.pieces.invariant.within);
+      stayed = c.in-Ok.ensures.stayed (λ e. cc) ∙ c.pieces.invariant.stayed;
       later = omega (arith, c.pieces.invariant.later, c.in-Ok.ensures.later);
     }

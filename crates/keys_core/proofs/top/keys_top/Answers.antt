@@ -1,9 +1,13 @@
-use Rattle.std.proofs.Common.{◌≡◌, refl, sym, ap, subst, ◌∙◌}
+use Rattle.std.proofs.Common.{◌≡◌, false, refl, sym, ap, subst, ◌∙◌}
 use Rattle.keys_core.specs.declared.words.Ask.{Ask}
 use Rattle.keys_core.specs.Work.{run_of}
 use Rattle.keys_core.specs.Runs.{IsRun}
 use Rattle.keys_core.specs.Again.{changes}
 use Rattle.keys_core.proofs.Runs.{same_told, stop_run, finish_run, stop_cause, finish_cause, finish_no_usage, stop_no_usage, stop_no_done, keeps_ring, some_none}
+use Rattle.keys_core.specs.Draws.{draws_of, DrawnAs}
+use Rattle.keys_core.proofs.Draws.{finish_drew}
+use Rattle.keys_core.proofs.Order.{finish_order}
+use Rattle.keys_core.proofs.Untouched.{stop_untouched, finish_untouched, unchanged_file, same_count, stop_counts, finish_counts}
 use Rattle.keys_core.proofs.top.keys_top.Goals as goal
 
 pub returns-in-None-clause-usage : goal.returns-in-None-clause-usage
@@ -48,3 +52,76 @@ returns-in-Ok-clause-reads_back g c ask m k k' e changed done em em' ek ek' =
 
 pub returns-in-Err-clause-reads_back : goal.returns-in-Err-clause-reads_back
 returns-in-Err-clause-reads_back g c ask m k k' e changed done em em' ek ek' = absurd (stop_no_done _ _ _ _ _ _ c.in-Err.status c.in-Err.ensures.cause done)
+
+-- ---- what is untouched
+
+pub returns-in-None-clause-untouched : goal.returns-in-None-clause-untouched
+returns-in-None-clause-untouched g c = (refl, (refl, (refl, (refl, refl))))
+
+pub returns-in-Ok-clause-untouched : goal.returns-in-Ok-clause-untouched
+returns-in-Ok-clause-untouched g c =
+    finish_untouched _ _ _ _ _ _ _ _ _ _ _ _ _ _ c.in-Some.ask c.in-Ok.work c.finish.result c.finish.ensures.cause c.in-Ok.ensures.file c.finish.ensures.untouched c.finish.ensures.still
+
+pub returns-in-Err-clause-untouched : goal.returns-in-Err-clause-untouched
+returns-in-Err-clause-untouched g c = stop_untouched _ _ _ _ _ _ _ _ _ _ _ _ _ _ c.in-Err.status c.in-Err.ensures.cause c.in-Err.ensures.untouched
+
+pub returns-in-None-clause-unchanged : goal.returns-in-None-clause-unchanged
+returns-in-None-clause-unchanged g c ask e same = (refl, refl)
+
+pub returns-in-Ok-clause-unchanged : goal.returns-in-Ok-clause-unchanged
+returns-in-Ok-clause-unchanged g c ask e same =
+    let as_asked : changes c.in-Some.ask ≡ false = ap changes (sym (same_told _ c.in-Some.ask ask (sym c.in-Some.ensures) e)) ∙ same in
+    (c.finish.ensures.still (unchanged_file c.in-Some.ask c.in-Ok.work c.in-Ok.ensures.file as_asked), c.in-Ok.ensures.still as_asked)
+
+pub returns-in-Err-clause-unchanged : goal.returns-in-Err-clause-unchanged
+returns-in-Err-clause-unchanged g c ask e same =
+    let as_asked : changes c.in-Some.ask ≡ false = ap changes (sym (same_told _ c.in-Some.ask ask (sym c.in-Some.ensures) e)) ∙ same in
+    (refl, c.in-Err.ensures.still as_asked)
+
+-- ---- the order
+
+pub returns-in-Ok-clause-order : goal.returns-in-Ok-clause-order
+returns-in-Ok-clause-order g c m em em' = finish_order _ _ _ _ _ c.finish.result c.finish.ensures.cause (c.in-Ok.ensures.order m em em')
+
+pub returns-in-Err-clause-order : goal.returns-in-Err-clause-order
+returns-in-Err-clause-order g c m em em' = c.in-Err.ensures.order m em em'
+
+-- ---- what is drawn
+
+pub returns-in-None-clause-drawn : goal.returns-in-None-clause-drawn
+returns-in-None-clause-drawn g c ask m r e em em' er er' = some_none _ ask (sym e) (sym c.in-None.ensures)
+
+pub returns-in-Ok-clause-drawn : goal.returns-in-Ok-clause-drawn
+returns-in-Ok-clause-drawn g c ask m r e em em' er er' =
+    let same : c.in-Some.ask ≡ ask = sym (same_told _ c.in-Some.ask ask (sym c.in-Some.ensures) e) in
+    subst (λ (a : Ask). DrawnAs c.finish.result (draws_of a m r) (g.R.Random.coming c.args.random.now) (g.R.Random.coming c.prepare.new.random)) same
+    (finish_drew _ _ _ _ _ _ _ c.finish.result c.finish.ensures.cause (c.in-Ok.ensures.drawn m r em em' er er'))
+
+pub returns-in-Err-clause-drawn : goal.returns-in-Err-clause-drawn
+returns-in-Err-clause-drawn g c ask m r e em em' er er' =
+    let same : c.in-Some.ask ≡ ask = sym (same_told _ c.in-Some.ask ask (sym c.in-Some.ensures) e) in
+    subst (λ (a : Ask). DrawnAs c.in-Err.status (draws_of a m r) (g.R.Random.coming c.args.random.now) (g.R.Random.coming c.prepare.new.random)) same (c.in-Err.ensures.drawn m r em em' er er')
+
+-- ---- counts
+
+pub returns-in-None-clause-later : goal.returns-in-None-clause-later
+returns-in-None-clause-later g c = (same_count _, (same_count _, (same_count _, (same_count _, same_count _))))
+
+pub returns-in-Ok-clause-later : goal.returns-in-Ok-clause-later
+returns-in-Ok-clause-later g c =
+    let before = c.prepare.ensures.later in
+    (before.0, (before.1.0, (c.finish.ensures.later.0, (before.1.1, c.finish.ensures.later.1))))
+
+pub returns-in-Err-clause-later : goal.returns-in-Err-clause-later
+returns-in-Err-clause-later g c =
+    let before = c.prepare.ensures.later in
+    (before.0, (before.1.0, (same_count _, (before.1.1, same_count _))))
+
+pub returns-in-None-clause-stayed : goal.returns-in-None-clause-stayed
+returns-in-None-clause-stayed g c = (refl, (refl, refl))
+
+pub returns-in-Ok-clause-stayed : goal.returns-in-Ok-clause-stayed
+returns-in-Ok-clause-stayed g c = finish_counts _ _ _ _ _ _ c.finish.result c.finish.ensures.cause c.in-Ok.ensures.stayed c.finish.ensures.stayed
+
+pub returns-in-Err-clause-stayed : goal.returns-in-Err-clause-stayed
+returns-in-Err-clause-stayed g c = stop_counts _ _ _ _ _ _ _ _ c.in-Err.status c.in-Err.ensures.cause c.in-Err.ensures.stayed

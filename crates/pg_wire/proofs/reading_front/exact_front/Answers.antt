@@ -2,6 +2,7 @@ use Rattle.std.proofs.Common.{Ok, arith}
 use Rattle.pg_wire.proofs.FrontMessages.{front_spelled}
 use Rattle.pg_wire.proofs.Readings.{front_only, front_offset, front_unspelled}
 use Rattle.pg_wire.proofs.Within.{front_left}
+use Rattle.pg_wire.proofs.FrontPlaces.{front_place}
 use Rattle.pg_wire.proofs.reading_front.exact_front.Goals as goal
 
 pub overflow_sub-result : goal.overflow_sub-result
@@ -18,3 +19,6 @@ returns-in-Ok-clause-found c = front_spelled c.args.kind c.args.body.now c.in-Ok
 
 pub returns-in-Ok-clause-only : goal.returns-in-Ok-clause-only
 returns-in-Ok-clause-only c = λ m spelled. front_only c.args.kind c.args.body.now (Ok c.in-Ok.message) m c.in-Ok.ensures spelled
+
+pub returns-in-Err-At-clause-place : goal.returns-in-Err-At-clause-place
+returns-in-Err-At-clause-place c = front_place c.args.kind c.args.body.now c.in-Err-At.left (λ i. omega (arith, c.type_inv.body i)) (rw c.in-Err-At.field-0-is at c.in-Err-At.ensures)

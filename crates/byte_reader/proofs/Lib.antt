@@ -3,3 +3,4 @@ pub mod Taken
 pub mod Widths
 pub mod Texts
 pub mod Within
+pub mod Faults

@@ -1,5 +1,5 @@
 -- The place where a server's message can't be read.
-use Rattle.std.proofs.Common.{◌≡◌, ℕ, zero, suc, ◌-◌, ◌^◌, ◌<◌, ◌≤◌, ◌⊎◌, Bool, true, false, cond, eqb, ◌||◌, List, [], ◌∷◌, ◌++◌, length, take, Result, Ok, Err, refl, sym, ap, subst, ◌∙◌, append_assoc, arith, inl, inr}
+use Rattle.std.proofs.Common.{◌≡◌, ℕ, zero, suc, ◌-◌, ◌^◌, ◌<◌, Bool, true, false, cond, eqb, ◌||◌, List, [], ◌∷◌, ◌++◌, length, take, Result, Ok, Err, refl, sym, ap, subst, ◌∙◌, append_assoc, arith, inl, inr}
 use Rattle.std.specs.Int.{w16, w32, to_be_bytes, cast_unsigned}
 use Rattle.std.specs.List.{AllByRecursion}
 use Rattle.std.proofs.lemmas.List.{append-nil}
@@ -8,18 +8,19 @@ use Rattle.pg_wire.specs.declared.back.ErrorField.{ErrorField}
 use Rattle.pg_wire.specs.declared.back.Back.{Back}
 use Rattle.pg_wire.specs.declared.back.Back.TheVariants as backs
 use Rattle.byte_reader.proofs.Widths.{be_wide32, number_again}
-use Rattle.byte_reader.proofs.Taken.{IsBytes, Takes}
+use Rattle.byte_reader.proofs.Taken.{IsBytes}
+use Rattle.byte_reader.proofs.Faults.{err_is, number_left}
 use Rattle.byte_reader.proofs.Within.{Within, alone_within}
-use Rattle.byte_reader.specs.Fields.{IsText, str, ◌>>=◌, be_number_at, str_at, alone}
-use Rattle.pg_wire.specs.Parts.{IsPair, IsWord, IsCell, cell_bytes, AreCounted}
+use Rattle.byte_reader.specs.Fields.{str, ◌>>=◌, be_number_at, str_at, alone}
+use Rattle.pg_wire.specs.Parts.{IsWord, IsCell, cell_bytes, AreCounted}
 use Rattle.pg_wire.specs.Backs.{IsField, field_bytes, IsErrorField, error_bytes, IsState, IsBack, back_kind, back_body}
 use Rattle.pg_wire.specs.Bodies.{◌followed_by◌, pair_at, field_at, cell_at, error_at, state_at, counted_at, listed_at, mapped, auth_at, key_data_at, back_at, back_read}
-use Rattle.pg_wire.specs.Places.{joined, word_fields, pair_fields, cell_fields, column_fields, error_fields, counted_fields, listed_fields, back_fields, IsBackFault}
+use Rattle.pg_wire.specs.Places.{joined, word_fields, cell_fields, column_fields, error_fields, counted_fields, listed_fields, back_fields, IsBackFault}
 use Rattle.pg_wire.proofs.Items.{IsItem}
 use Rattle.pg_wire.proofs.BackMessages.{state_takes}
 use Rattle.pg_wire.proofs.RowLaws.{regroup7}
-use Rattle.pg_wire.proofs.Within.{state_within, auth_within}
-use Rattle.pg_wire.proofs.Placing.{Places, err_is, mapped_within, number_left, single_places}
+use Rattle.pg_wire.proofs.Within.{state_within, auth_within, within_mapped}
+use Rattle.pg_wire.proofs.Placing.{Places, single_places}
 use Rattle.pg_wire.proofs.ListPlaces.{counted_places, listed_places}
 use Rattle.pg_wire.proofs.FieldPlaces.{text_places, word_places, pair_places, cell_places, column_places, error_places}
 use Rattle.pg_wire.proofs.FaultPlaces.{counted_joined, listed_joined, unit_places, Faulty, no_faulty, faulty_or, faulty_of, is_place}
@@ -113,6 +114,7 @@ key_data_same body = by (be_number_at w32 body) where
   second : (process : ℕ) (r : Result (ℕ × List ℕ) ℕ) → (r >>= λ key. Ok (backs.KeyData process key.0, key.1)) ≡ mapped keyed (r >>= λ key. Ok ((process, key.0), key.1))
   second process (Ok key) = refl
   second process (Err left) = refl
+
   by : (r : Result (ℕ × List ℕ) ℕ) → (r >>= λ process. be_number_at w32 process.1 >>= λ key. Ok (backs.KeyData process.0 key.0, key.1))
       ≡ mapped keyed (r >>= λ process. be_number_at w32 process.1 >>= λ key. Ok ((process.0, key.0), key.1))
   by (Ok process) = second process.0 (be_number_at w32 process.1)
@@ -158,27 +160,27 @@ auth_most code tail (suc n) body rest lt e =
 key_data_most : (process key n : ℕ) (body rest : List ℕ) → IsWord process × IsWord key → IsBytes body → body ≡ joined (take n (to_be_bytes w32 process ∷ to_be_bytes w32 key ∷ [])) ++ rest → Within (length rest) (key_data_at body)
 key_data_most process key n body rest is bs e =
     subst (λ (y : Result (Back × List ℕ) ℕ). Within (length rest) y) (sym (key_data_same body))
-    (mapped_within (length rest) keyed ((be_number_at w32 followed_by be_number_at w32) body) (words_places.most body rest (process, key) n is bs e))
+    (within_mapped (length rest) keyed ((be_number_at w32 followed_by be_number_at w32) body) (words_places.most body rest (process, key) n is bs e))
 
 empty_most : (m : Back) (n : ℕ) (body rest : List ℕ) → IsBytes body → body ≡ joined (take n []) ++ rest → Within (length rest) (Ok (m, body))
-empty_most m n body rest bs e = mapped_within (length rest) (λ u. m) (Ok (tt {0}, body)) (unit_places.most body rest (tt {0}) n (tt {0}) bs e)
+empty_most m n body rest bs e = within_mapped (length rest) (λ u. m) (Ok (tt {0}, body)) (unit_places.most body rest (tt {0}) n (tt {0}) bs e)
 
 back_most : (m : Back) (n : ℕ) (body rest : List ℕ) → IsBack m → IsBytes body → body ≡ joined (take n (back_fields m)) ++ rest → Within (length rest) (back_at (back_kind m) body)
 back_most (backs.Auth code tail) n body rest is bs e = auth_most code tail n body rest is e
-back_most (backs.Status pair) n body rest is bs e = mapped_within (length rest) backs.Status (pair_at body) (pair_places.most body rest pair n is bs e)
+back_most (backs.Status pair) n body rest is bs e = within_mapped (length rest) backs.Status (pair_at body) (pair_places.most body rest pair n is bs e)
 back_most (backs.KeyData process key) n body rest is bs e = key_data_most process key n body rest is bs e
-back_most (backs.Ready b) n body rest is bs e = mapped_within (length rest) backs.Ready (state_at body) (state_places.most body rest b n is bs e)
-back_most (backs.Row fields) n body rest is bs e = mapped_within (length rest) backs.Row (counted_at field_at body) (row_places.most body rest fields n is bs e)
-back_most (backs.Cells cells) n body rest is bs e = mapped_within (length rest) backs.Cells (counted_at cell_at body) (cells_places.most body rest cells n is bs e)
-back_most (backs.Complete tag) n body rest is bs e = mapped_within (length rest) backs.Complete (str_at body) (text_places.most body rest tag n is bs e)
+back_most (backs.Ready b) n body rest is bs e = within_mapped (length rest) backs.Ready (state_at body) (state_places.most body rest b n is bs e)
+back_most (backs.Row fields) n body rest is bs e = within_mapped (length rest) backs.Row (counted_at field_at body) (row_places.most body rest fields n is bs e)
+back_most (backs.Cells cells) n body rest is bs e = within_mapped (length rest) backs.Cells (counted_at cell_at body) (cells_places.most body rest cells n is bs e)
+back_most (backs.Complete tag) n body rest is bs e = within_mapped (length rest) backs.Complete (str_at body) (text_places.most body rest tag n is bs e)
 back_most backs.EmptyQuery n body rest is bs e = empty_most backs.EmptyQuery n body rest bs e
-back_most (backs.Error fields) n body rest is bs e = mapped_within (length rest) backs.Error (listed_at error_at body) (errors_places.most body rest fields n is bs e)
-back_most (backs.Notice fields) n body rest is bs e = mapped_within (length rest) backs.Notice (listed_at error_at body) (errors_places.most body rest fields n is bs e)
+back_most (backs.Error fields) n body rest is bs e = within_mapped (length rest) backs.Error (listed_at error_at body) (errors_places.most body rest fields n is bs e)
+back_most (backs.Notice fields) n body rest is bs e = within_mapped (length rest) backs.Notice (listed_at error_at body) (errors_places.most body rest fields n is bs e)
 back_most backs.ParseDone n body rest is bs e = empty_most backs.ParseDone n body rest bs e
 back_most backs.BindDone n body rest is bs e = empty_most backs.BindDone n body rest bs e
 back_most backs.CloseDone n body rest is bs e = empty_most backs.CloseDone n body rest bs e
 back_most backs.NoData n body rest is bs e = empty_most backs.NoData n body rest bs e
-back_most (backs.Params types) n body rest is bs e = mapped_within (length rest) backs.Params (counted_at (be_number_at w32) body) (types_places.most body rest types n is bs e)
+back_most (backs.Params types) n body rest is bs e = within_mapped (length rest) backs.Params (counted_at (be_number_at w32) body) (types_places.most body rest types n is bs e)
 back_most backs.Suspended n body rest is bs e = empty_most backs.Suspended n body rest bs e
 
 pub back_place : (kind : ℕ) (body : List ℕ) (left : ℕ) → IsBytes body → back_read kind body ≡ Err left → IsBackFault kind body (length body - left)

@@ -1,5 +1,5 @@
 -- The place where a message's body can't be read, by how far its readers get.
-use Rattle.std.proofs.Common.{◌≡◌, ℕ, zero, suc, ◌-◌, ◌≤◌, ◌⊎◌, Bool, true, false, cond, eqb, List, [], ◌∷◌, ◌++◌, length, take, Result, Ok, Err, refl, sym, ap, subst, ◌∙◌, arith, inl, inr}
+use Rattle.std.proofs.Common.{◌≡◌, ℕ, ◌-◌, ◌≤◌, ◌⊎◌, Bool, true, false, cond, eqb, List, [], ◌∷◌, ◌++◌, length, take, Result, Ok, Err, refl, sym, ap, subst, ◌∙◌, arith, inl, inr}
 use Rattle.std.specs.List.{flat_map}
 use Rattle.std.specs.Int.{w16, to_be_bytes}
 use Rattle.std.proofs.lemmas.Bool.{eqb-true}
@@ -7,10 +7,11 @@ use Rattle.std.proofs.lemmas.List.{length-append}
 use Rattle.std.proofs.Math.Seq.{take-append_seam}
 use Rattle.byte_reader.specs.Fields.{◌>>=◌, alone}
 use Rattle.byte_reader.proofs.Taken.{IsBytes}
+use Rattle.byte_reader.proofs.Faults.{err_is}
 use Rattle.pg_wire.specs.Parts.{counted_items, listed_items}
 use Rattle.pg_wire.specs.Bodies.{mapped}
 use Rattle.pg_wire.specs.Places.{joined, counted_fields, listed_fields, EndsAt, IsFaultPlace}
-use Rattle.pg_wire.proofs.Placing.{Stops, Places, joined-append, err_is, nothing_places, alone_stops}
+use Rattle.pg_wire.proofs.Placing.{Stops, Places, joined-append, nothing_places, alone_stops}
 
 -- ---- fields are the body
 
@@ -33,9 +34,6 @@ unit_places = nothing_places tt tt (λ u h. refl) refl
 -- a fault of what is read of a body stands at its first byte, or behind whole fields of a message of kind k
 pub record Faulty (M : Type 0) (IsM : M → Type 0) (kind_of : M → ℕ) (fields_of : M → List (List ℕ)) (k : ℕ) (body : List ℕ) (read : Result (M × List ℕ) ℕ) : Type 0 where
   pub stops : (left : ℕ) → (read >>= alone) ≡ Err left → (left ≡ length body) ⊎ Stops fields_of (λ m. IsM m × (k ≡ kind_of m)) body left
-
-abbrev failed : {M : Type 0} → ℕ → Result (M × List ℕ) ℕ
-failed left = Err left
 
 pub no_faulty : {M : Type 0} {IsM : M → Type 0} {kind_of : M → ℕ} {fields_of : M → List (List ℕ)} {kind : ℕ} {body : List ℕ} → Faulty M IsM kind_of fields_of kind body (Err (length body))
 no_faulty {M} {IsM} {kind_of} {fields_of} {kind} {body} = record { stops = λ left e. inl (sym (err_is {A = M} (length body) left e)) }

@@ -1,7 +1,6 @@
 -- How far readers of fields and of their groups get.
-use Rattle.std.proofs.Common.{◌≡◌, ◌≢◌, ℕ, zero, suc, ◌^◌, ◌<◌, ◌⊎◌, Bool, true, false, cond, eqb, ltb, ◌||◌, List, [], ◌∷◌, ◌++◌, length, get_or, take, drop, replicate, Option, Some, None, Result, Ok, Err, refl, sym, ap, subst, ◌∙◌, arith, inl, inr, ℤ}
+use Rattle.std.proofs.Common.{◌≡◌, ◌≢◌, ℕ, zero, suc, ◌^◌, ◌<◌, ◌⊎◌, Bool, true, false, cond, eqb, ltb, ◌||◌, List, [], ◌∷◌, ◌++◌, length, get_or, replicate, Option, Some, None, Result, Ok, Err, refl, sym, ap, subst, ◌∙◌, arith, inl, inr, ℤ}
 use Rattle.std.specs.Int.{w16, w32, to_be_bytes, cast_signed, cast_unsigned}
-use Rattle.std.specs.List.{position}
 use Rattle.std.proofs.lemmas.Bool.{eqb-true, ne_eqb, ltb-true, lt-ltb, or_cases}
 use Rattle.std.proofs.lemmas.Int.{to_z-of_z, of_z-to_z}
 use Rattle.std.proofs.lemmas.List.{length-replicate}
@@ -9,31 +8,25 @@ use Rattle.std.proofs.Math.Facts.{Fits-of_z}
 use Rattle.pg_wire.specs.declared.front.Pair.{Pair}
 use Rattle.pg_wire.specs.declared.back.Field.{Field}
 use Rattle.pg_wire.specs.declared.back.ErrorField.{ErrorField}
-use Rattle.byte_reader.specs.Fields.{◌>>=◌, be_number_at, bytes_at, around, str_at, IsText, str}
-use Rattle.byte_reader.proofs.Steps.{bind_ok, ok_is, guard_ok}
+use Rattle.byte_reader.specs.Fields.{◌>>=◌, be_number_at, bytes_at, str_at, IsText, str}
+use Rattle.byte_reader.proofs.Steps.{bind_ok, ok_is}
 use Rattle.byte_reader.proofs.Taken.{IsBytes, IsBytes-rest, Takes, bytes_take, bytes_again}
 use Rattle.byte_reader.proofs.Texts.{str_takes, str_again, text_first}
-use Rattle.byte_reader.proofs.Widths.{be_wide16, be_wide32, number_takes, number_again}
+use Rattle.byte_reader.proofs.Widths.{be_wide32, number_takes, number_again}
+use Rattle.byte_reader.proofs.Faults.{err_is, bind_err, kept_err, number_left, bytes_left, str_left}
 use Rattle.byte_reader.proofs.Within.{Within, within_cond, be_number_within, bytes_within, str_within}
-use Rattle.pg_wire.specs.Parts.{IsPair, IsWord, IsFormat, IsCell, cell_bytes}
+use Rattle.pg_wire.specs.Parts.{IsPair, IsWord, IsFormat, IsCell}
 use Rattle.pg_wire.specs.Fronts.{IsParam}
 use Rattle.pg_wire.specs.Backs.{IsField, IsErrorField}
 use Rattle.pg_wire.specs.Bodies.{pair_at, format_at, field_at, cell_at, error_at, mapped}
 use Rattle.pg_wire.specs.Places.{joined, word_fields, format_fields, pair_fields, cell_fields, column_fields, error_fields}
 use Rattle.pg_wire.proofs.Items.{IsItem}
-use Rattle.pg_wire.proofs.RowLaws.{str_item, word_item, format_item, with_name, with_table, with_attribute, with_kind, with_size, with_modifier, with_format, fits16, fits32, some_cell, cell_behind}
+use Rattle.pg_wire.proofs.RowLaws.{str_item, word_item, format_item, with_name, with_table, with_attribute, with_kind, with_size, with_modifier, fits16, fits32, some_cell, cell_behind, kept_ok}
 use Rattle.pg_wire.proofs.Within.{format_within}
-use Rattle.pg_wire.proofs.Placing.{Stops, Places, Goes, err_is, bind_err, guard_err, number_left, single_places, nothing_places, same_places, as_places, map_places, then_places}
-use Rattle.pg_wire.proofs.ListPlaces.{ListPlaces}
+use Rattle.pg_wire.proofs.Placing.{Places, Goes, single_places, nothing_places, same_places, map_places, then_places}
+use Rattle.pg_wire.proofs.ListPlaces.{ListPlaces, count_places}
 
 -- ---- texts and numbers
-
-str_left : (bytes : List ℕ) (left : ℕ) → str_at bytes ≡ Err left → left ≡ length bytes
-unfolding str_at
-str_left bytes left e = by (position (λ (b : ℕ). eqb b 0) bytes) e where
-  by : (o : Option ℕ) → around bytes o ≡ Err left → left ≡ length bytes
-  by None h = sym (err_is {A = List ℕ × List ℕ} (length bytes) left h)
-  by (Some i) h = absurd cc
 
 empty_text : IsText []
 empty_text found = absurd (omega (arith, found.1))
@@ -43,16 +36,6 @@ text_places = single_places str_item [] empty_text str_within str_left
 
 pub word_places : Places (be_number_at w32) word_fields IsWord
 word_places = single_places word_item 0 (omega arith) (be_number_within w32) (number_left w32)
-
-half_item : IsItem (be_number_at w16) (to_be_bytes w16) (λ n. n < 2 ^ 16)
-half_item = record { takes = number_takes w16 (2 ^ 16) be_wide16; again = number_again w16 (2 ^ 16) be_wide16 }
-
-pub half_places : Places (be_number_at w16) (λ n. to_be_bytes w16 n ∷ []) (λ n. n < 2 ^ 16)
-half_places = single_places half_item 0 (omega arith) (be_number_within w16) (number_left w16)
-
-kept_err : {A : Type 0} (b : Bool) (d : ℕ) (x : A) (left : ℕ) → cond b (Ok x) (Err d) ≡ Err left → left ≡ d
-kept_err true d x left h = absurd cc
-kept_err {A} false d x left h = sym (err_is {A = A} d left h)
 
 format_left : (bytes : List ℕ) (left : ℕ) → format_at bytes ≡ Err left → left ≡ length bytes
 unfolding format_at
@@ -229,10 +212,6 @@ IsSize n = (n ≡ 4294967295) ⊎ (n < 2 ^ 31)
 abbrev is_size : ℕ → Bool
 is_size n = eqb n 4294967295 || ltb n (2 ^ 31)
 
-kept_ok : {A : Type 0} (b : Bool) (d : ℕ) (x y : A) → cond b (Ok x) (Err d) ≡ Ok y → (b ≡ true) × (x ≡ y)
-kept_ok true d x y e = (refl, ok_is x y e)
-kept_ok false d x y e = absurd cc
-
 size_of : (n : ℕ) → is_size n ≡ true → IsSize n
 unfolding IsSize
 size_of n e = elim (or_cases (eqb n 4294967295) (ltb n (2 ^ 31)) e) [ inl h ↦ inl (eqb-true _ _ h) | inr h ↦ inr (ltb-true _ _ h) ]
@@ -289,9 +268,6 @@ no_size = inr (omega arith)
 
 size_places : Places size_at (λ n. to_be_bytes w32 n ∷ []) IsSize
 size_places = single_places size_item 0 no_size size_within size_left
-
-bytes_left : (n : ℕ) (bytes : List ℕ) (left : ℕ) → bytes_at n bytes ≡ Err left → left ≡ length bytes
-bytes_left n bytes left e = guard_err (ltb (length bytes) n) (length bytes) (take n bytes, drop n bytes) left e
 
 bytes_item : (n : ℕ) → IsItem (bytes_at n) (λ bytes. bytes) (λ bytes. length bytes ≡ n)
 bytes_item n = record { takes = bytes_take n; again = bytes_again n }
@@ -378,11 +354,11 @@ column_places =
     then_places {later = λ f. to_be_bytes w16 f.attribute ∷ to_be_bytes w32 f.kind ∷ to_be_bytes w16 (cast_unsigned w16 f.size) ∷ to_be_bytes w32 (cast_unsigned w32 f.modifier) ∷ to_be_bytes w16 f.format ∷ []}
     (λ (f : Field). f.table) (λ table bytes. with_table name (table, bytes)) word_places (λ table t.
     then_places {later = λ f. to_be_bytes w32 f.kind ∷ to_be_bytes w16 (cast_unsigned w16 f.size) ∷ to_be_bytes w32 (cast_unsigned w32 f.modifier) ∷ to_be_bytes w16 f.format ∷ []}
-    (λ (f : Field). f.attribute) (λ attribute bytes. with_attribute name table (attribute, bytes)) half_places (λ attribute a.
+    (λ (f : Field). f.attribute) (λ attribute bytes. with_attribute name table (attribute, bytes)) count_places (λ attribute a.
     then_places {later = λ f. to_be_bytes w16 (cast_unsigned w16 f.size) ∷ to_be_bytes w32 (cast_unsigned w32 f.modifier) ∷ to_be_bytes w16 f.format ∷ []}
     (λ (f : Field). f.kind) (λ kind bytes. with_kind name table attribute (kind, bytes)) word_places (λ kind k.
     then_places {later = λ f. to_be_bytes w32 (cast_unsigned w32 f.modifier) ∷ to_be_bytes w16 f.format ∷ []}
-    (λ (f : Field). cast_unsigned w16 f.size) (λ size bytes. with_size name table attribute kind (size, bytes)) half_places (λ size s.
+    (λ (f : Field). cast_unsigned w16 f.size) (λ size bytes. with_size name table attribute kind (size, bytes)) count_places (λ size s.
     then_places {later = λ f. to_be_bytes w16 f.format ∷ []}
     (λ (f : Field). cast_unsigned w32 f.modifier) (λ modifier bytes. with_modifier name table attribute kind size (modifier, bytes)) word_places (λ modifier m.
     map_places (made_column name table attribute kind size modifier) (λ f. f.format) format_places

@@ -1,5 +1,5 @@
 -- The place where a client's message can't be read.
-use Rattle.std.proofs.Common.{◌≡◌, ℕ, zero, suc, ◌-◌, ◌^◌, ◌<◌, ◌≤◌, ◌⊎◌, Bool, true, false, cond, eqb, List, [], ◌∷◌, ◌++◌, length, take, Option, Some, None, Result, Ok, Err, refl, sym, ap, subst, ◌∙◌, append_assoc, arith, inl, inr}
+use Rattle.std.proofs.Common.{◌≡◌, ℕ, zero, suc, ◌-◌, ◌^◌, ◌<◌, ◌⊎◌, Bool, true, false, cond, eqb, List, [], ◌∷◌, ◌++◌, length, take, Option, Some, None, Result, Ok, Err, refl, sym, ap, subst, ◌∙◌, append_assoc, arith, inl, inr}
 use Rattle.std.specs.List.{flat_map, AllByRecursion}
 use Rattle.std.specs.Int.{w16, w32, to_be_bytes}
 use Rattle.std.proofs.lemmas.Bool.{eqb-true}
@@ -10,7 +10,8 @@ use Rattle.pg_wire.specs.declared.front.Target.TheVariants as targets
 use Rattle.pg_wire.specs.declared.front.Front.{Front}
 use Rattle.pg_wire.specs.declared.front.Front.TheVariants as fronts
 use Rattle.byte_reader.proofs.Widths.{be_wide32, number_takes, number_again}
-use Rattle.byte_reader.proofs.Taken.{IsBytes, Takes}
+use Rattle.byte_reader.proofs.Taken.{IsBytes}
+use Rattle.byte_reader.proofs.Faults.{err_is, number_left}
 use Rattle.byte_reader.proofs.Within.{Within, alone_within}
 use Rattle.byte_reader.specs.Fields.{IsText, str, ◌>>=◌, be_number_at, str_at, alone}
 use Rattle.pg_wire.specs.Parts.{pair_bytes, cell_bytes, IsWord, IsFormat, IsCell, AreCounted}
@@ -18,8 +19,8 @@ use Rattle.pg_wire.specs.Fronts.{IsParam, IsFront, target_byte, front_kind, fron
 use Rattle.pg_wire.specs.Bodies.{◌followed_by◌, pair_at, format_at, cell_at, counted_at, listed_at, mapped, startup_at, parse_at, bind_at, target_at, targeted_at, execute_at, coded_at, front_at, front_read}
 use Rattle.pg_wire.specs.Places.{joined, word_fields, format_fields, pair_fields, cell_fields, counted_fields, listed_fields, front_fields, IsFrontFault}
 use Rattle.pg_wire.proofs.FrontMessages.{target_item, cancelled}
-use Rattle.pg_wire.proofs.Within.{target_within, startup_within}
-use Rattle.pg_wire.proofs.Placing.{Stops, Places, joined-append, err_is, mapped_within, number_left, single_places, both_places, alone_stops}
+use Rattle.pg_wire.proofs.Within.{target_within, startup_within, within_mapped}
+use Rattle.pg_wire.proofs.Placing.{Stops, Places, joined-append, single_places, both_places, alone_stops}
 use Rattle.pg_wire.proofs.ListPlaces.{counted_places, listed_places}
 use Rattle.pg_wire.proofs.FieldPlaces.{text_places, word_places, format_places, param_places, cell_places}
 use Rattle.pg_wire.proofs.FaultPlaces.{counted_joined, listed_joined, unit_places, Faulty, no_faulty, faulty_or, faulty_of, is_place}
@@ -216,45 +217,45 @@ startup_most {A} {r} {fields} {Fits} k made lt run p v (suc n) body rest fits bs
     let one : be_number_at w32 body ≡ Ok (k, more) = ap (be_number_at w32) parts ∙ number_again w32 (2 ^ 32) be_wide32 k more lt in
     let t = (number_takes w32 (2 ^ 32) be_wide32 body (k, more) bs one).0 in
     subst (λ (y : Result (ℕ × List ℕ) ℕ). Within (length rest) (y >>= coded_at (length body))) (sym one)
-    (subst (λ (y : Result (Front × List ℕ) ℕ). Within (length rest) y) (sym (run (length body) more)) (mapped_within (length rest) made (r more) (p.most more rest v n fits t.rest_fits refl)))
+    (subst (λ (y : Result (Front × List ℕ) ℕ). Within (length rest) y) (sym (run (length body) more)) (within_mapped (length rest) made (r more) (p.most more rest v n fits t.rest_fits refl)))
 
 parse_most : (name text types : List ℕ) (n : ℕ) (body rest : List ℕ) → IsFront (fronts.Parse name text types) → IsBytes body → body ≡ joined (take n (front_fields (fronts.Parse name text types))) ++ rest → Within (length rest) (parse_at body)
 unfolding parse_at
 parse_most name text types n body rest is bs e =
-    mapped_within (length rest) (λ x. fronts.Parse x.0.0 x.0.1 x.1) ((str_at followed_by str_at followed_by counted_at (be_number_at w32)) body)
+    within_mapped (length rest) (λ x. fronts.Parse x.0.0 x.0.1 x.1) ((str_at followed_by str_at followed_by counted_at (be_number_at w32)) body)
     (parse_places.most body rest ((name, text), types) n ((is.named, is.spelled), is.types_fit) bs e)
 
 bind_most : (portal name formats : List ℕ) (values : List (Option (List ℕ))) (results : List ℕ) (n : ℕ) (body rest : List ℕ) → IsFront (fronts.Bind portal name formats values results) → IsBytes body
     → body ≡ joined (take n (front_fields (fronts.Bind portal name formats values results))) ++ rest → Within (length rest) (bind_at body)
 unfolding bind_at
 bind_most portal name formats values results n body rest is bs e =
-    mapped_within (length rest) (λ x. fronts.Bind x.0.0.0.0 x.0.0.0.1 x.0.0.1 x.0.1 x.1) ((str_at followed_by str_at followed_by counted_at format_at followed_by counted_at cell_at followed_by counted_at format_at) body)
+    within_mapped (length rest) (λ x. fronts.Bind x.0.0.0.0 x.0.0.0.1 x.0.0.1 x.0.1 x.1) ((str_at followed_by str_at followed_by counted_at format_at followed_by counted_at cell_at followed_by counted_at format_at) body)
     (bind_places.most body rest ((((portal, name), formats), values), results) n ((((is.portal_named, is.named), is.formats_fit), is.values_fit), is.results_fit) bs e)
 
 targeted_most : (target : Target) (name : List ℕ) (made : Target × List ℕ → Front) (n : ℕ) (body rest : List ℕ) → IsText name → IsBytes body → body ≡ joined (take n ((target_byte target ∷ []) ∷ str name ∷ [])) ++ rest
     → Within (length rest) (mapped made (targeted_at body))
 unfolding targeted_at
-targeted_most target name made n body rest is bs e = mapped_within (length rest) made ((target_at followed_by str_at) body) (targeted_places.most body rest (target, name) n (tt, is) bs e)
+targeted_most target name made n body rest is bs e = within_mapped (length rest) made ((target_at followed_by str_at) body) (targeted_places.most body rest (target, name) n (tt, is) bs e)
 
 execute_most : (portal : List ℕ) (limit n : ℕ) (body rest : List ℕ) → IsText portal × IsWord limit → IsBytes body → body ≡ joined (take n (str portal ∷ to_be_bytes w32 limit ∷ [])) ++ rest → Within (length rest) (execute_at body)
 unfolding execute_at
-execute_most portal limit n body rest is bs e = mapped_within (length rest) (λ x. fronts.Execute x.0 x.1) ((str_at followed_by be_number_at w32) body) (execute_places.most body rest (portal, limit) n is bs e)
+execute_most portal limit n body rest is bs e = within_mapped (length rest) (λ x. fronts.Execute x.0 x.1) ((str_at followed_by be_number_at w32) body) (execute_places.most body rest (portal, limit) n is bs e)
 
 front_most : (m : Front) (n : ℕ) (body rest : List ℕ) → IsFront m → IsBytes body → body ≡ joined (take n (front_fields m)) ++ rest → Within (length rest) (front_at (front_kind m) body)
 front_most (fronts.Startup params) n body rest is bs e = startup_most 196608 fronts.Startup (omega arith) (λ len rest'. refl) params_places params n body rest is bs e
 front_most fronts.SslRequest n body rest is bs e = startup_most 80877103 (λ u. fronts.SslRequest) (omega arith) (λ len rest'. refl) unit_places (tt {0}) n body rest (tt {0}) bs e
 front_most fronts.GssRequest n body rest is bs e = startup_most 80877104 (λ u. fronts.GssRequest) (omega arith) (λ len rest'. refl) unit_places (tt {0}) n body rest (tt {0}) bs e
 front_most (fronts.Cancel process key) n body rest is bs e = startup_most 80877102 cancelled (omega arith) (λ len rest'. refl) words_places (process, key) n body rest is bs e
-front_most (fronts.Query text) n body rest is bs e = mapped_within (length rest) fronts.Query (str_at body) (text_places.most body rest text n is bs e)
+front_most (fronts.Query text) n body rest is bs e = within_mapped (length rest) fronts.Query (str_at body) (text_places.most body rest text n is bs e)
 front_most (fronts.Parse name text types) n body rest is bs e = parse_most name text types n body rest is bs e
 front_most (fronts.Bind portal name formats values results) n body rest is bs e = bind_most portal name formats values results n body rest is bs e
 front_most (fronts.Describe target name) n body rest is bs e = targeted_most target name (λ x. fronts.Describe x.0 x.1) n body rest is bs e
 front_most (fronts.Execute portal limit) n body rest is bs e = execute_most portal limit n body rest is bs e
 front_most (fronts.Close target name) n body rest is bs e = targeted_most target name (λ x. fronts.Close x.0 x.1) n body rest is bs e
-front_most fronts.Sync n body rest is bs e = mapped_within (length rest) (λ u. fronts.Sync) (Ok (tt {0}, body)) (unit_places.most body rest (tt {0}) n (tt {0}) bs e)
-front_most fronts.Flush n body rest is bs e = mapped_within (length rest) (λ u. fronts.Flush) (Ok (tt {0}, body)) (unit_places.most body rest (tt {0}) n (tt {0}) bs e)
+front_most fronts.Sync n body rest is bs e = within_mapped (length rest) (λ u. fronts.Sync) (Ok (tt {0}, body)) (unit_places.most body rest (tt {0}) n (tt {0}) bs e)
+front_most fronts.Flush n body rest is bs e = within_mapped (length rest) (λ u. fronts.Flush) (Ok (tt {0}, body)) (unit_places.most body rest (tt {0}) n (tt {0}) bs e)
 front_most (fronts.Password bytes) n body rest is bs e = omega arith
-front_most fronts.Terminate n body rest is bs e = mapped_within (length rest) (λ u. fronts.Terminate) (Ok (tt {0}, body)) (unit_places.most body rest (tt {0}) n (tt {0}) bs e)
+front_most fronts.Terminate n body rest is bs e = within_mapped (length rest) (λ u. fronts.Terminate) (Ok (tt {0}, body)) (unit_places.most body rest (tt {0}) n (tt {0}) bs e)
 
 pub front_place : (kind : ℕ) (body : List ℕ) (left : ℕ) → IsBytes body → front_read kind body ≡ Err left → IsFrontFault kind body (length body - left)
 unfolding front_read

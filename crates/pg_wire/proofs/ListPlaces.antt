@@ -1,19 +1,20 @@
 -- How far readers of lists get.
-use Rattle.std.proofs.Common.{◌≡◌, ℕ, zero, suc, ◌+◌, ◌^◌, ◌<◌, ◌≤◌, List, [], ◌∷◌, ◌++◌, length, get_or, take, drop, Result, Ok, Err, refl, sym, ap, subst, ◌∙◌, append_assoc, arith, inl, inr, ◌⊎◌}
+use Rattle.std.proofs.Common.{◌≡◌, ℕ, zero, suc, ◌^◌, ◌<◌, ◌≤◌, List, [], ◌∷◌, ◌++◌, length, get_or, take, drop, Result, Ok, Err, refl, sym, ap, subst, ◌∙◌, append_assoc, arith, inl, inr}
 use Rattle.std.specs.List.{flat_map, AllByRecursion}
 use Rattle.std.specs.Int.{w16, to_be_bytes}
-use Rattle.std.proofs.lemmas.List.{append-nil, nil_from_length, length-append, take-append-drop}
+use Rattle.std.proofs.lemmas.List.{nil_from_length, length-append, take-append-drop}
 use Rattle.std.proofs.Math.Seq.{take-nil}
 use Rattle.byte_reader.specs.Fields.{◌>>=◌, be_number_at}
 use Rattle.byte_reader.proofs.Steps.{bind_ok, ok_is}
 use Rattle.byte_reader.proofs.Taken.{IsBytes, IsBytes-rest, Takes, Takes-then}
 use Rattle.byte_reader.proofs.Widths.{be_wide16, number_takes, number_again}
-use Rattle.byte_reader.proofs.Within.{Within, within_more, be_number_within}
+use Rattle.byte_reader.proofs.Faults.{bind_err, number_left}
+use Rattle.byte_reader.proofs.Within.{Within, be_number_within}
 use Rattle.pg_wire.specs.Parts.{AreCounted}
 use Rattle.pg_wire.specs.Bodies.{items_at, counted_at, ended_at, listed_at, mapped}
 use Rattle.pg_wire.specs.Places.{joined, counted_fields, listed_fields}
 use Rattle.pg_wire.proofs.Items.{IsItem}
-use Rattle.pg_wire.proofs.Placing.{Stops, Places, Goes, joined-append, bind_within, bind_err, place_within, number_left, single_places, nothing_places, as_places, map_places, then_places, split_take, whole_then}
+use Rattle.pg_wire.proofs.Placing.{Stops, Places, Goes, joined-append, bind_within, place_within, single_places, nothing_places, as_places, map_places, then_places, split_take, whole_then}
 
 -- ---- as many as a count says
 
@@ -41,7 +42,7 @@ items_places {A} {item} {fields} {Fits} p (suc n) =
 count_item : IsItem (be_number_at w16) (to_be_bytes w16) (λ n. n < 2 ^ 16)
 count_item = record { takes = number_takes w16 (2 ^ 16) be_wide16; again = number_again w16 (2 ^ 16) be_wide16 }
 
-count_places : Places (be_number_at w16) (λ n. to_be_bytes w16 n ∷ []) (λ n. n < 2 ^ 16)
+pub count_places : Places (be_number_at w16) (λ n. to_be_bytes w16 n ∷ []) (λ n. n < 2 ^ 16)
 count_places = single_places count_item 0 (omega arith) (be_number_within w16) (number_left w16)
 
 pub counted_places : {A : Type 0} {item : List ℕ → Result (A × List ℕ) ℕ} {fields : A → List (List ℕ)} {Fits : A → Type 0} → Places item fields Fits → Places (counted_at item) (counted_fields fields) (AreCounted Fits)

@@ -1,17 +1,18 @@
 -- How far readers get: as far as the whole fields of any value with which the bytes begin.
-use Rattle.std.proofs.Common.{◌≡◌, ℕ, zero, suc, ◌+◌, ◌-◌, ◌<◌, ◌≤◌, Bool, true, false, cond, eqb, ltb, List, [], ◌∷◌, ◌++◌, length, take, drop, Result, Ok, Err, refl, sym, ap, subst, ◌∙◌, append_assoc, arith, inl, inr, ◌⊎◌}
+use Rattle.std.proofs.Common.{◌≡◌, ℕ, zero, suc, ◌+◌, ◌-◌, ◌≤◌, List, [], ◌∷◌, ◌++◌, length, take, Result, Ok, Err, refl, sym, ap, subst, ◌∙◌, append_assoc, arith, inl, inr, ◌⊎◌}
 use Rattle.std.proofs.lemmas.Bool.{cases_lt}
 use Rattle.std.proofs.lemmas.Grind.{flat_map-append}
 use Rattle.std.proofs.lemmas.List.{append-nil, take-append-le}
 use Rattle.std.proofs.Math.Seq.{take-nil, take-append-add}
-use Rattle.std.specs.Int.{Width, byte_len, from_be_bytes}
-use Rattle.byte_reader.specs.Fields.{◌>>=◌, be_number_at, alone}
+use Rattle.byte_reader.specs.Fields.{◌>>=◌, alone}
 use Rattle.byte_reader.proofs.Steps.{bind_ok, ok_is}
 use Rattle.byte_reader.proofs.Taken.{IsBytes, Takes, Takes-then}
 use Rattle.byte_reader.proofs.Within.{Within, within_more}
 use Rattle.pg_wire.specs.Bodies.{◌followed_by◌, mapped}
 use Rattle.pg_wire.specs.Places.{joined}
+use Rattle.byte_reader.proofs.Faults.{err_is, bind_err, alone_err}
 use Rattle.pg_wire.proofs.Items.{IsItem}
+use Rattle.pg_wire.proofs.Within.{within_mapped}
 
 -- behind whole fields of some value so many bytes are left
 pub record Stops {A : Type 0} (fields : A → List (List ℕ)) (Fits : A → Type 0) (bytes : List ℕ) (left : ℕ) : Type 0 where
@@ -45,20 +46,8 @@ pub bind_within : {A B : Type 0} (n : ℕ) (r : Result (A × List ℕ) ℕ) (f :
 bind_within n (Ok x) f h g = within_more (length x.1) n (f x) h (g x refl)
 bind_within n (Err left) f h g = h
 
-pub mapped_within : {A B : Type 0} (n : ℕ) (f : A → B) (r : Result (A × List ℕ) ℕ) → Within n r → Within n (mapped f r)
-mapped_within n f (Ok x) h = h
-mapped_within n f (Err left) h = h
-
 abbrev failed : {A : Type 0} → ℕ → Result A ℕ
 failed left = Err left
-
-pub err_is : {A : Type 0} (l left : ℕ) → failed {A = A} l ≡ failed left → l ≡ left
-err_is l left e = cc
-
--- a chain that failed, at its first step or behind it
-pub bind_err : {A B : Type 0} (r : Result A ℕ) (f : A → Result B ℕ) (left : ℕ) → (r >>= f) ≡ Err left → (r ≡ Err left) ⊎ ((x : A) × (r ≡ Ok x) × (f x ≡ Err left))
-bind_err (Ok x) f left e = inr (x, refl, e)
-bind_err {A} {B} (Err l) f left e = inl (ap (λ (n : ℕ). failed {A = A} n) (err_is {A = B} l left e))
 
 pub mapped_err : {A B : Type 0} (f : A → B) (r : Result (A × List ℕ) ℕ) (left : ℕ) → mapped f r ≡ Err left → r ≡ Err left
 mapped_err f (Ok x) left e = absurd cc
@@ -66,14 +55,6 @@ mapped_err {A} {B} f (Err l) left e = ap (λ (n : ℕ). failed {A = A × List �
 
 pub place_within : {A : Type 0} {r : List ℕ → Result (A × List ℕ) ℕ} {fields : A → List (List ℕ)} {Fits : A → Type 0} → Places r fields Fits → (bytes : List ℕ) → IsBytes bytes → Within (length bytes) (r bytes)
 place_within p bytes bs = p.most bytes bytes p.some 0 p.some_fits bs refl
-
--- a test that failed
-pub guard_err : {A : Type 0} (b : Bool) (d : ℕ) (x : A) (left : ℕ) → cond b (Err d) (Ok x) ≡ Err left → left ≡ d
-guard_err {A} true d x left h = sym (err_is {A = A} d left h)
-guard_err false d x left h = absurd cc
-
-pub number_left : (w : Width) (bytes : List ℕ) (left : ℕ) → be_number_at w bytes ≡ Err left → left ≡ length bytes
-number_left w bytes left e = guard_err (ltb (length bytes) (byte_len w)) (length bytes) (from_be_bytes w (take (byte_len w) bytes), drop (byte_len w) bytes) left e
 
 -- ---- one field
 
@@ -192,7 +173,7 @@ map_places {A} {B} {r} {fields} {Fits} {shown} {Right} made back p there goes sp
       furthest : (bytes rest : List ℕ) (b : B) (n : ℕ) → Right b → IsBytes bytes → bytes ≡ joined (take n (shown b)) ++ rest → Within (length rest) (mapped made (r bytes))
       furthest bytes rest b n right bs e =
           let g = goes b right in
-          mapped_within (length rest) made (r bytes) (p.most bytes rest (back b) n g.fits bs (e ∙ ap (λ (fs : List (List ℕ)). joined (take n fs) ++ rest) g.spelled))
+          within_mapped (length rest) made (r bytes) (p.most bytes rest (back b) n g.fits bs (e ∙ ap (λ (fs : List (List ℕ)). joined (take n fs) ++ rest) g.spelled))
 
 -- ---- one behind another
 
@@ -288,12 +269,6 @@ both_places {A} {B} {a} {b} {fa} {fb} {Fa} {Fb} pa pb =
     (λ c h. (h.0, refl))
 
 -- ---- a body that must end
-
-alone_err : {B : Type 0} (x : B × List ℕ) (l : ℕ) → alone x ≡ Err l → l ≡ length x.1
-alone_err {B} x l e = by (eqb (length x.1) 0) e where
-  by : (b : Bool) → cond b (Ok x.0) (Err (length x.1)) ≡ Err l → l ≡ length x.1
-  by true h = absurd cc
-  by false h = sym (err_is {A = B} (length x.1) l h)
 
 pub alone_stops : {A B : Type 0} {r : List ℕ → Result (A × List ℕ) ℕ} {fields : A → List (List ℕ)} {Fits : A → Type 0} (made : A → B) → Places r fields Fits → (bytes : List ℕ) (left : ℕ) → IsBytes bytes → (mapped made (r bytes) >>= alone) ≡ Err left
     → Stops fields Fits bytes left

@@ -24,7 +24,7 @@ abbrev ok_none : List ℕ → Result (Option (List ℕ) × List ℕ) ℕ
 ok_none rest = Ok (None, rest)
 
 -- a test that did not fail
-kept_ok : {A : Type 0} (b : Bool) (d : ℕ) (x y : A) → cond b (Ok x) (Err d) ≡ Ok y → (b ≡ true) × (x ≡ y)
+pub kept_ok : {A : Type 0} (b : Bool) (d : ℕ) (x y : A) → cond b (Ok x) (Err d) ≡ Ok y → (b ≡ true) × (x ≡ y)
 kept_ok true d x y e = (refl, cc)
 kept_ok false d x y e = absurd cc
 

@@ -2,13 +2,14 @@
 use Rattle.std.proofs.Common.{◌≡◌, ℕ, ◌+◌, ◌%◌, ◌^◌, Bool, List, [], ◌∷◌, ◌++◌, length, Some, None, Ok, Err, refl, sym, ap, subst, ◌∙◌, append_assoc, arith, inl, inr, ◌⊎◌}
 use Rattle.std.specs.Prelude.{◌&&◌}
 use Rattle.std.specs.List.{flat_map}
-use Rattle.std.proofs.lemmas.List.{append-nil, length-append, append_cancel_left}
+use Rattle.std.proofs.lemmas.List.{append-nil, length-append}
 use Rattle.pg_wire.specs.declared.frame.Side.{Side}
 use Rattle.pg_wire.specs.declared.frame.Frame.{Frame}
 use Rattle.pg_wire.specs.declared.frame.NextFault.TheVariants as next
 use Rattle.pg_wire.specs.Frames.{frame_bytes, IsFrame, asks_encryption}
-use Rattle.pg_wire.specs.Streams.{Stream, opens, new_stream, fed, behind, GivesFrame, Gives}
-use Rattle.pg_wire.specs.Runs.{Event, Fed, Answered, Run, fed_bytes, given, spelling, Stand, opening_behind, IsSpelled, IsDrained, Begins}
+use Rattle.pg_wire.specs.Streams.{Stream, opens, new_stream, fed, behind, GivesFrame}
+use Rattle.pg_wire.specs.Runs.{Event, Fed, Answered, Run, fed_bytes, given, spelling, Stand, opening_behind, IsSpelled, IsDrained}
+use Rattle.pg_wire.specs.Begins.{Begins}
 use Rattle.pg_wire.proofs.FrameLaws.{one_frame}
 
 -- a run from a stream before which so many bytes were given out

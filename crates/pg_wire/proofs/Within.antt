@@ -12,7 +12,7 @@ use Rattle.pg_wire.specs.Bodies.{pair_at, format_at, field_at, cell_at, error_at
 use Rattle.pg_wire.proofs.RowLaws.{with_name, with_table, with_attribute, with_kind, with_size, with_modifier, with_format, some_cell, sized_cell, cell_behind}
 use Rattle.pg_wire.proofs.FrontMessages.{cancelled}
 
-within_mapped : {A B : Type 0} (n : ℕ) (f : A → B) (r : Result (A × List ℕ) ℕ) → Within n r → Within n (mapped f r)
+pub within_mapped : {A B : Type 0} (n : ℕ) (f : A → B) (r : Result (A × List ℕ) ℕ) → Within n r → Within n (mapped f r)
 within_mapped n f (Ok x) h = h
 within_mapped n f (Err left) h = h
 

@@ -1,5 +1,6 @@
 pub mod Frames
 pub mod Streams
+pub mod Begins
 pub mod Runs
 pub mod Parts
 pub mod Fronts

@@ -14,7 +14,7 @@ use Rattle.pg_wire.specs.declared.frame.ReadBody.{ReadBody}
 use Rattle.pg_wire.specs.declared.frame.ReadBody.TheVariants as read
 use Rattle.pg_wire.specs.Fronts.{IsFront, front_kind, target_byte}
 use Rattle.pg_wire.specs.Backs.{IsBack, back_kind}
-use Rattle.pg_wire.specs.Runs.{Begins}
+use Rattle.pg_wire.specs.Begins.{Begins}
 
 abbrev pub joined : List (List ℕ) → List ℕ
 joined fields = flat_map (λ field. field) fields

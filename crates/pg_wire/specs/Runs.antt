@@ -59,7 +59,3 @@ pub record IsSpelled (who : Side) (limit : ℕ) (events : List Event) (t : Strea
 -- no frame stands at the front
 abbrev pub IsDrained : Stream → Type 0
 IsDrained t = (kind : ℕ) (body rest : List ℕ) → IsFrame t.who t.limit t.opening kind body → t.left ≡ frame_bytes kind body ++ rest → ⊥
-
--- one list begins the other
-abbrev pub Begins : {A : Type 0} → List A → List A → Type 0
-Begins {A} xs ys = (rest : List A) × (ys ≡ xs ++ rest)

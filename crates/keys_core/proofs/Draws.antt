@@ -13,7 +13,6 @@ use Rattle.keys_core.specs.declared.words.Ask.{Ask}
 use Rattle.keys_core.specs.declared.words.Ask.TheVariants as asks
 use Rattle.keys_core.specs.declared.opening.Shut.TheVariants as shut
 use Rattle.keys_core.specs.declared.status.RingTrouble.{RingTrouble}
-use Rattle.keys_core.specs.declared.status.KeyFile.TheVariants as files
 use Rattle.keys_core.specs.declared.status.KeysStatus.{KeysStatus}
 use Rattle.keys_core.specs.declared.status.KeysStatus.TheVariants as ends
 use Rattle.keys_core.specs.declared.work.Work.{Work}
@@ -146,7 +145,7 @@ pub prepared_drew : (ask : Ask) (m r key bytes : List ℕ) (a b : Option Stream)
     → PreparedDrew result (ring_draws ask key bytes) a b → PreparedDrew result (draws_of ask m r) a b
 prepared_drew ask m r key bytes a b result e same short p =
     let due : ring_draws ask key bytes ≡ draws_of ask m r =
-        short_draws ask key bytes short ∙ (ap (draws_under ask (Some key)) same ∙ ap (λ (k : Option (List ℕ)). draws_under ask k r) (sym e)) in
+    short_draws ask key bytes short ∙ (ap (draws_under ask (Some key)) same ∙ ap (λ (k : Option (List ℕ)). draws_under ask k r) (sym e)) in
     subst (λ (l : List ℕ). PreparedDrew result l a b) due p
 
 pub long_drew : (ask : Ask) (m r key : List ℕ) (a : Option Stream) → master_of m ≡ Some key → 2 ^ 24 < length r → DrewBy (draws_of ask m r) a a

@@ -1,6 +1,5 @@
 -- The master file comes before all else.
 use Rattle.std.proofs.Common.{◌≡◌, ℕ, true, List, Option, Some, is_some, Result, Ok, Err, IfErr, MatchResult, ap}
-use Rattle.ring_file.specs.Master.{master_of}
 use Rattle.keys_core.specs.declared.status.KeyFile.TheVariants as files
 use Rattle.keys_core.specs.declared.status.KeysStatus.{KeysStatus}
 use Rattle.keys_core.specs.declared.status.KeysStatus.TheVariants as ends

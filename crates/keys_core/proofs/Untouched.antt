@@ -1,10 +1,9 @@
 -- Devices that have no business at an end are as they were.
-use Rattle.std.proofs.Common.{◌≡◌, ℕ, ◌≤◌, ◌&&◌, Bool, true, false, Option, is_some, Result, Ok, Err, IfErr, MatchResult, refl, sym, ap, ◌∙◌, arith}
+use Rattle.std.proofs.Common.{◌≡◌, ℕ, ◌≤◌, ◌&&◌, Bool, true, false, is_some, Result, Ok, Err, IfErr, refl, ap, ◌∙◌, arith}
 use Rattle.keys_core.specs.declared.words.Ask.{Ask}
 use Rattle.keys_core.specs.declared.status.KeyFile.TheVariants as files
 use Rattle.keys_core.specs.declared.status.KeysStatus.{KeysStatus}
 use Rattle.keys_core.specs.declared.status.KeysStatus.TheVariants as ends
-use Rattle.keys_core.specs.declared.work.Outcome.{Outcome}
 use Rattle.keys_core.specs.declared.work.Work.{Work}
 use Rattle.keys_core.specs.Again.{changes, is_done, changed_ring}
 use Rattle.keys_core.specs.Runs.{StopCaused, FinishCaused}
@@ -86,17 +85,17 @@ unchanged_file ask work e h = e ∙ ap (λ (b : Bool). b && is_done work.outcome
 pub same_count : (n : ℕ) → n ≤ n
 same_count n = omega arith
 
-pub stop_counts_same : (d : ℕ) (status : KeysStatus) → CountsStay status 0 0 d d 0 0
-stop_counts_same d ends.Done = (refl, (refl, refl))
-stop_counts_same d ends.Usage = (refl, (refl, refl))
-stop_counts_same d ends.BadMaster = (refl, (refl, refl))
-stop_counts_same d (ends.RingRefused why) = (refl, (refl, refl))
-stop_counts_same d (ends.Refused why) = (refl, (refl, refl))
-stop_counts_same d (ends.ReadFault file) = (refl, (refl, refl))
-stop_counts_same d ends.WriteFault = (refl, refl)
-stop_counts_same d ends.NoMemory = (refl, (refl, refl))
-stop_counts_same d ends.KeeperFault = (refl, refl)
-stop_counts_same d ends.RandomFault = (refl, refl)
+pub same_counts : (d : ℕ) (status : KeysStatus) → CountsStay status 0 0 d d 0 0
+same_counts d ends.Done = (refl, (refl, refl))
+same_counts d ends.Usage = (refl, (refl, refl))
+same_counts d ends.BadMaster = (refl, (refl, refl))
+same_counts d (ends.RingRefused why) = (refl, (refl, refl))
+same_counts d (ends.Refused why) = (refl, (refl, refl))
+same_counts d (ends.ReadFault file) = (refl, (refl, refl))
+same_counts d ends.WriteFault = (refl, refl)
+same_counts d ends.NoMemory = (refl, (refl, refl))
+same_counts d ends.KeeperFault = (refl, refl)
+same_counts d ends.RandomFault = (refl, refl)
 
 pub stop_counts : (k d d' w a a' b b' : ℕ) (status : KeysStatus) → StopCaused status a a' b b' d d' → CountsStay status 0 0 d d' 0 0 → CountsStay status k k d d' w w
 stop_counts k d d' w a a' b b' ends.Done c h = absurd c

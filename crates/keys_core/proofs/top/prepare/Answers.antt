@@ -3,7 +3,7 @@ use Rattle.keys_core.proofs.Runs.{prepared, too_long_run, worked_caused, master_
 use Rattle.keys_core.proofs.Again.{with_key}
 use Rattle.keys_core.proofs.Draws.{drew_nothing, none_made, prepared_drew, long_drew, master_drew}
 use Rattle.keys_core.proofs.Order.{worked_order, master_order}
-use Rattle.keys_core.proofs.Untouched.{worked_untouched, master_untouched, same_count, stop_counts_same}
+use Rattle.keys_core.proofs.Untouched.{worked_untouched, master_untouched, same_count, same_counts}
 use Rattle.keys_core.specs.Draws.{draws_of}
 use Rattle.keys_core.proofs.top.prepare.Goals as goal
 
@@ -129,4 +129,4 @@ pub returns-in-Err-clause-later : goal.returns-in-Err-clause-later
 returns-in-Err-clause-later g c = (c.master_key.ensures.later, (same_count _, same_count _))
 
 pub returns-in-Err-clause-stayed : goal.returns-in-Err-clause-stayed
-returns-in-Err-clause-stayed g c = stop_counts_same _ c.in-Err.status
+returns-in-Err-clause-stayed g c = same_counts _ c.in-Err.status

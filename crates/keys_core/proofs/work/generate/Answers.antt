@@ -1,4 +1,4 @@
-use Rattle.std.proofs.Common.{◌≡◌, ℕ, [], ◌∷◌, length, false, sym, subst, ◌∙◌, arith}
+use Rattle.std.proofs.Common.{◌≡◌, ℕ, [], ◌∷◌, length, sym, subst, ◌∙◌, arith}
 use Rattle.acra_devices.specs.declared.device.Failed.{Failed}
 use Rattle.keystore.specs.Answers.{add_refusal}
 use Rattle.keystore.specs.declared.refusals.AddRefusal.TheVariants as no_add
@@ -29,7 +29,7 @@ pub returns-in-Ok-key_line-clause-drawn : goal.returns-in-Ok-key_line-clause-dra
 returns-in-Ok-key_line-clause-drawn g c =
     let full : length c.draw.new.out ≡ 64 = omega arith in
     let drew : DrewBy (64 ∷ []) (g.R.Random.coming c.args.random.now) (g.R.Random.coming c.draw.new.self) =
-        drew_ok {E = Failed} 64 (g.R.Random.coming c.args.random.now) (g.R.Random.coming c.draw.new.self) c.draw.result c.draw.new.out full c.draw.ensures.bytes (sym c.is_err.ensures.value ∙ c.if-is_err.false) in
+    drew_ok {E = Failed} 64 (g.R.Random.coming c.args.random.now) (g.R.Random.coming c.draw.new.self) c.draw.result c.draw.new.out full c.draw.ensures.bytes (sym c.is_err.ensures.value ∙ c.if-is_err.false) in
     work_then (64 ∷ []) (12 ∷ []) (64 ∷ nonce_unless (add_refusal c.args.ring.now c.args.who.now)) (g.R.Random.coming c.args.random.now) (g.R.Random.coming c.draw.new.self) (g.R.Random.coming c.changed.new.random) c.changed.result
     (taken_due (add_refusal c.args.ring.now c.args.who.now) (answers_none _ _ _ c.in-Ok.id c.in-Ok.ensures.answer)) drew c.changed.ensures.drawn
 
@@ -37,14 +37,14 @@ pub returns-in-Err-clause-drawn : goal.returns-in-Err-clause-drawn
 returns-in-Err-clause-drawn g c =
     let full : length c.draw.new.out ≡ 64 = omega arith in
     let drew : DrewBy (64 ∷ []) (g.R.Random.coming c.args.random.now) (g.R.Random.coming c.draw.new.self) =
-        drew_ok {E = Failed} 64 (g.R.Random.coming c.args.random.now) (g.R.Random.coming c.draw.new.self) c.draw.result c.draw.new.out full c.draw.ensures.bytes (sym c.is_err.ensures.value ∙ c.if-is_err.false) in
+    drew_ok {E = Failed} 64 (g.R.Random.coming c.args.random.now) (g.R.Random.coming c.draw.new.self) c.draw.result c.draw.new.out full c.draw.ensures.bytes (sym c.is_err.ensures.value ∙ c.if-is_err.false) in
     one_made 64 (nonce_unless (add_refusal c.args.ring.now c.args.who.now)) (g.R.Random.coming c.args.random.now) (g.R.Random.coming c.draw.new.self) drew
 
 pub returns-in-Err-Exists-clause-drawn : goal.returns-in-Err-Exists-clause-drawn
 returns-in-Err-Exists-clause-drawn g c =
     let full : length c.draw.new.out ≡ 64 = omega arith in
     let drew : DrewBy (64 ∷ []) (g.R.Random.coming c.args.random.now) (g.R.Random.coming c.draw.new.self) =
-        drew_ok {E = Failed} 64 (g.R.Random.coming c.args.random.now) (g.R.Random.coming c.draw.new.self) c.draw.result c.draw.new.out full c.draw.ensures.bytes (sym c.is_err.ensures.value ∙ c.if-is_err.false) in
+    drew_ok {E = Failed} 64 (g.R.Random.coming c.args.random.now) (g.R.Random.coming c.draw.new.self) c.draw.result c.draw.new.out full c.draw.ensures.bytes (sym c.is_err.ensures.value ∙ c.if-is_err.false) in
     work_drew (64 ∷ nonce_unless (add_refusal c.args.ring.now c.args.who.now)) (g.R.Random.coming c.args.random.now) (g.R.Random.coming c.draw.new.self) c.refused.result c.refused.ensures.stopped
     (refused_drew {T = ℕ} (add_refusal c.args.ring.now c.args.who.now) no_add.Exists (λ (id : ℕ). id ≡ c.args.ring.now.next_id) (g.R.Random.coming c.args.random.now) (g.R.Random.coming c.draw.new.self) (rw c.in-Err-Exists.field-0-is at c.in-Err-Exists.ensures.answer) (λ e. cc e) drew)
 
@@ -52,7 +52,7 @@ pub returns-in-Err-TooMany-clause-drawn : goal.returns-in-Err-TooMany-clause-dra
 returns-in-Err-TooMany-clause-drawn g c =
     let full : length c.draw.new.out ≡ 64 = omega arith in
     let drew : DrewBy (64 ∷ []) (g.R.Random.coming c.args.random.now) (g.R.Random.coming c.draw.new.self) =
-        drew_ok {E = Failed} 64 (g.R.Random.coming c.args.random.now) (g.R.Random.coming c.draw.new.self) c.draw.result c.draw.new.out full c.draw.ensures.bytes (sym c.is_err.ensures.value ∙ c.if-is_err.false) in
+    drew_ok {E = Failed} 64 (g.R.Random.coming c.args.random.now) (g.R.Random.coming c.draw.new.self) c.draw.result c.draw.new.out full c.draw.ensures.bytes (sym c.is_err.ensures.value ∙ c.if-is_err.false) in
     work_drew (64 ∷ nonce_unless (add_refusal c.args.ring.now c.args.who.now)) (g.R.Random.coming c.args.random.now) (g.R.Random.coming c.draw.new.self) c.refused-in-Err-TooMany.result c.refused-in-Err-TooMany.ensures.stopped
     (refused_drew {T = ℕ} (add_refusal c.args.ring.now c.args.who.now) no_add.TooMany (λ (id : ℕ). id ≡ c.args.ring.now.next_id) (g.R.Random.coming c.args.random.now) (g.R.Random.coming c.draw.new.self) (rw c.in-Err-TooMany.field-0-is at c.in-Err-TooMany.ensures.answer) (λ e. cc e) drew)
 
@@ -60,5 +60,5 @@ pub returns-in-Err-NoMemory-clause-drawn : goal.returns-in-Err-NoMemory-clause-d
 returns-in-Err-NoMemory-clause-drawn g c =
     let full : length c.draw.new.out ≡ 64 = omega arith in
     let drew : DrewBy (64 ∷ []) (g.R.Random.coming c.args.random.now) (g.R.Random.coming c.draw.new.self) =
-        drew_ok {E = Failed} 64 (g.R.Random.coming c.args.random.now) (g.R.Random.coming c.draw.new.self) c.draw.result c.draw.new.out full c.draw.ensures.bytes (sym c.is_err.ensures.value ∙ c.if-is_err.false) in
+    drew_ok {E = Failed} 64 (g.R.Random.coming c.args.random.now) (g.R.Random.coming c.draw.new.self) c.draw.result c.draw.new.out full c.draw.ensures.bytes (sym c.is_err.ensures.value ∙ c.if-is_err.false) in
     one_made 64 (nonce_unless (add_refusal c.args.ring.now c.args.who.now)) (g.R.Random.coming c.args.random.now) (g.R.Random.coming c.draw.new.self) drew

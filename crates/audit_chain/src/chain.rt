@@ -116,8 +116,8 @@ impl Chain {
         self.ended = kind == NoteKind::Close;
     }
 
-    /// Appends the line that says a note next, and gives its number. Without memory, or on a closed log, the
-    /// chain stays.
+    /// Appends the line that says a note next, and gives its number. Without memory, or where it is ended, the
+    /// chain and the keeper stay. Behind a keeper that failed it is ended.
     pub fn append<K: Keeper>(
         &mut self,
         alloc: Global,
@@ -132,7 +132,8 @@ impl Chain {
             → OnOk result (StandsBehind key (lines ++ next_line self.old note.now ∷ []) self.new) }
         ensures later { K.keeper_faults keeper.old ≤ K.keeper_faults keeper.new }
         ensures stayed { OnOk result (K.keeper_faults keeper.new ≡ K.keeper_faults keeper.old) }
-        ensures untouched { (IsErrOf result AppendRefusal.NoMemory → keeper.new ≡ keeper.old) × (IsErrOf result AppendRefusal.Closed → keeper.new ≡ keeper.old) }
+        ensures untouched { (IsErrOf result AppendRefusal.NoMemory → keeper.new ≡ keeper.old)
+            × (IsErrOf result AppendRefusal.Closed → keeper.new ≡ keeper.old) }
         ensures keeper_fault { IsErrOf result AppendRefusal.KeeperFault → Rose (K.keeper_faults keeper.old) (K.keeper_faults keeper.new) }
     {
         if self.ended {

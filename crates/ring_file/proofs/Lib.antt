@@ -9,3 +9,4 @@ pub mod Sorted
 pub mod Bodies
 pub mod Sealed
 pub mod Long
+pub mod Fronts

@@ -1,6 +1,7 @@
 ghost use Rattle.std.specs.Prelude.{◌≡◌, ◌≤◌, ℕ, List, Some, true, is_some, IsErrOf};
 ghost use Rattle.acra_devices.specs.Causes.{Rose};
 ghost use Rattle.ring_file.specs.Master.{stem, master_of, MasterIs};
+ghost use Rattle.ring_file.specs.Whole.{TookFront};
 
 use crate::whole::{FileRefusal, read_file};
 use acra_devices::Source;
@@ -47,6 +48,8 @@ fn master_of(text: &[u8]) -> Option<[u8; 32]>
 pub fn read_master<S: Source>(alloc: Global, file: &mut S) -> Result<[u8; 32], MasterFault>
     ensures key { (text : List ℕ) → S.left file.old ≡ Some text → is_some (S.left file.new) ≡ true → MasterIs result (master_of text) }
     ensures later { S.read_faults file.old ≤ S.read_faults file.new }
+    ensures took { TookFront (S.left file.old) (S.left file.new) 66 }
+    ensures stayed { (IsErrOf result MasterFault.ReadFault → ⊥) → S.read_faults file.new ≡ S.read_faults file.old }
     ensures fault { IsErrOf result MasterFault.ReadFault → Rose (S.read_faults file.old) (S.read_faults file.new) }
 {
     match read_file(alloc, file, MASTER_LIMIT) {

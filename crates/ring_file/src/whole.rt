@@ -1,7 +1,7 @@
-ghost use Rattle.std.specs.Prelude.{◌≡◌, ◌≤◌, ℕ, List, Some, true, is_some, length, OnOk, IfOk, IsErrOf};
+ghost use Rattle.std.specs.Prelude.{◌≡◌, ◌≤◌, ◌+◌, ℕ, List, Some, true, is_some, length, OnOk, IfOk, IsErrOf};
 ghost use Rattle.acra_devices.specs.Causes.{Rose};
 ghost use Rattle.acra_devices.specs.Known.{IsAtEnd};
-ghost use Rattle.ring_file.specs.Whole.{IsWholly};
+ghost use Rattle.ring_file.specs.Whole.{IsWholly, TookFront};
 
 use acra_base::Bytes;
 use acra_devices::Source;
@@ -18,7 +18,7 @@ pub enum FileRefusal {
     NoMemory,
 }
 
-/// All bytes that are left of a source, where they are at most `limit`.
+/// All bytes that are left of a source, where they are at most `limit`. At most one more is read.
 pub fn read_file<S: Source>(
     alloc: Global,
     source: &mut S,
@@ -28,12 +28,15 @@ pub fn read_file<S: Source>(
     ensures within { IfOk result (λ bytes. length bytes ≤ limit) }
     ensures end { OnOk result (IsAtEnd (S.left source.new)) }
     ensures later { S.read_faults source.old ≤ S.read_faults source.new }
+    ensures took { TookFront (S.left source.old) (S.left source.new) (limit + 1) }
+    ensures stayed { (IsErrOf result FileRefusal.ReadFault → ⊥) → S.read_faults source.new ≡ S.read_faults source.old }
     ensures fault { IsErrOf result FileRefusal.ReadFault → Rose (S.read_faults source.old) (S.read_faults source.new) }
 {
     let mut bytes = Bytes::new(alloc);
     let mut buf = [0; 4096];
     'pieces: loop {
-        match source.read(&mut buf) {
+        let room = (limit - bytes.len()).min(4095) + 1;
+        match source.read(&mut buf[..room]) {
             Err(_) => return Err(FileRefusal::ReadFault),
             Ok(0) => return Ok(bytes),
             Ok(count) => {

@@ -1,13 +1,16 @@
 -- Devices that have no business at an end are as they were.
-use Rattle.std.proofs.Common.{◌≡◌, ℕ, ◌≤◌, ◌&&◌, Bool, true, false, is_some, Result, Ok, Err, IfErr, refl, ap, ◌∙◌, arith}
+use Rattle.std.proofs.Common.{◌≡◌, ℕ, ◌≤◌, ◌&&◌, Bool, true, false, is_some, Result, Ok, Err, IfErr, refl, sym, ap, ◌∙◌, arith}
 use Rattle.keys_core.specs.declared.words.Ask.{Ask}
+use Rattle.ring_file.specs.declared.whole.FileRefusal.{FileRefusal}
+use Rattle.ring_file.specs.declared.whole.FileRefusal.TheVariants as refusals
+use Rattle.keys_core.specs.declared.status.KeyFile.{KeyFile}
 use Rattle.keys_core.specs.declared.status.KeyFile.TheVariants as files
 use Rattle.keys_core.specs.declared.status.KeysStatus.{KeysStatus}
 use Rattle.keys_core.specs.declared.status.KeysStatus.TheVariants as ends
 use Rattle.keys_core.specs.declared.work.Work.{Work}
 use Rattle.keys_core.specs.Again.{changes, is_done, changed_ring}
 use Rattle.keys_core.specs.Runs.{StopCaused, FinishCaused}
-use Rattle.keys_core.specs.Untouched.{Untouched, StopUntouched, WorkUntouched, FinishUntouched, CountsStay}
+use Rattle.keys_core.specs.Untouched.{Untouched, StopUntouched, WorkUntouched, FinishUntouched, CountsStay, ReadStayed}
 
 -- ---- before anything is kept or printed
 
@@ -120,3 +123,15 @@ finish_counts k k' d d' w w' ends.WriteFault c e h = (h.0, e)
 finish_counts k k' d d' w w' ends.NoMemory c e h = absurd c
 finish_counts k k' d d' w w' ends.KeeperFault c e h = (e, h.1)
 finish_counts k k' d d' w w' ends.RandomFault c e h = absurd c
+
+-- ---- the files' counts
+
+pub read_stayed : {T : Type 0} (result : Result T KeysStatus) (file : KeyFile) (r r' : ℕ) → r' ≡ r → ReadStayed result file r r'
+read_stayed (Ok value) file r r' e = e
+read_stayed (Err status) file r r' e = λ not. e
+
+pub other_refusal : {T : Type 0} (why found : FileRefusal) → found ≡ why → (why ≡ refusals.ReadFault → ⊥) → ◌≡◌ {A = Result T FileRefusal} (Err found) (Err refusals.ReadFault) → ⊥
+other_refusal {T} why found e other h = other (sym e ∙ same)
+  where
+    same : found ≡ refusals.ReadFault
+    same = cc

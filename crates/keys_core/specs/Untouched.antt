@@ -6,6 +6,7 @@ use Rattle.keys_core.specs.declared.opening.Shut.TheVariants as shut
 use Rattle.keys_core.specs.declared.work.Work.{Work}
 use Rattle.keys_core.specs.declared.work.Stop.{Stop}
 use Rattle.keys_core.specs.declared.work.Stop.TheVariants as stop
+use Rattle.keys_core.specs.declared.status.KeyFile.{KeyFile}
 use Rattle.keys_core.specs.declared.status.KeyFile.TheVariants as files
 use Rattle.keys_core.specs.declared.status.KeysStatus.{KeysStatus}
 use Rattle.keys_core.specs.declared.status.KeysStatus.TheVariants as ends
@@ -65,3 +66,11 @@ abbrev pub WorkCount : Result Work Stop → ℕ → ℕ → Type 0
 WorkCount (Ok w) d d' = d' ≡ d
 WorkCount (Err stop.NoMemory) d d' = d' ≡ d
 WorkCount (Err stop.RandomFault) d d' = Unit {0}
+
+-- the count of a file's reads moves only at its own fault
+abbrev pub FileStayed : KeysStatus → KeyFile → ℕ → ℕ → Type 0
+FileStayed status file r r' = (status ≡ ends.ReadFault file → ⊥) → r' ≡ r
+
+abbrev pub ReadStayed : {T : Type 0} → Result T KeysStatus → KeyFile → ℕ → ℕ → Type 0
+ReadStayed (Ok value) file r r' = r' ≡ r
+ReadStayed (Err status) file r r' = FileStayed status file r r'

@@ -5,11 +5,12 @@ ghost use Rattle.ring_file.specs.Master.{master_of};
 ghost use Rattle.keys_core.specs.Work.{makes_ring, made_or_read, run_with, run_of};
 ghost use Rattle.keys_core.specs.Again.{changes, is_done, changed_ring, HasFile, MakesFile, KeepsRing};
 ghost use Rattle.keys_core.specs.Runs.{CausedBy, NoneFell, StopCaused, FinishCaused, MasterAs, PreparedAs, IsKept, FinishedAs, WhereTold, IsRun};
-ghost use Rattle.keys_core.specs.Untouched.{Untouched, StopUntouched, WorkUntouched, FinishUntouched, CountsStay};
+ghost use Rattle.keys_core.specs.Untouched.{Untouched, StopUntouched, WorkUntouched, FinishUntouched, CountsStay, FileStayed, ReadStayed};
 ghost use Rattle.keys_core.specs.Order.{MasterFirst};
 ghost use Rattle.keys_core.specs.Draws.{ring_draws, draws_of, DrawnAs, PreparedDrew};
 ghost use Rattle.acra_devices.specs.Causes.{HasCause};
 ghost use Rattle.keys_core.specs.declared.words.Ask.{Ask};
+ghost use Rattle.keys_core.specs.declared.status.KeyFile.TheVariants as files;
 ghost use Rattle.keys_core.specs.declared.status.KeysStatus.TheVariants as ends;
 ghost use Rattle.keys_core.specs.declared.work.Outcome.TheVariants as outcomes;
 
@@ -41,6 +42,7 @@ fn master_key<S: Source>(alloc: Global, master: &mut S) -> Result<[u8; 32], Keys
     ensures key { (m : List ℕ) → S.left master.old ≡ Some m → is_some (S.left master.new) ≡ true → MasterAs result (master_of m) }
     ensures cause { IfErr result (λ status. StopCaused status (S.read_faults master.old) (S.read_faults master.new) 0 0 0 0) }
     ensures later { S.read_faults master.old ≤ S.read_faults master.new }
+    ensures stayed { ReadStayed result files.Master (S.read_faults master.old) (S.read_faults master.new) }
 {
     match read_master(alloc, master) {
         Ok(key) => Ok(key),
@@ -105,6 +107,8 @@ fn prepare<S: Source, T: Source, R: Random>(
     ensures kept { (m : List ℕ) → S.left master.old ≡ Some m → is_some (S.left master.new) ≡ true → changes ask.now ≡ true → IfOk result (λ w. (key : List ℕ) × ((master_of m ≡ Some key) × MakesFile key w)) }
     ensures cause { IfErr result (λ status. StopCaused status (S.read_faults master.old) (S.read_faults master.new) (T.read_faults ring.old) (T.read_faults ring.new) (R.draw_faults random.old) (R.draw_faults random.new)) }
     ensures later { (S.read_faults master.old ≤ S.read_faults master.new) × ((T.read_faults ring.old ≤ T.read_faults ring.new) × (R.draw_faults random.old ≤ R.draw_faults random.new)) }
+    ensures master_stayed { ReadStayed result files.Master (S.read_faults master.old) (S.read_faults master.new) }
+    ensures ring_stayed { ReadStayed result files.Ring (T.read_faults ring.old) (T.read_faults ring.new) }
     ensures stayed { MatchResult result (λ _. R.draw_faults random.new ≡ R.draw_faults random.old) (λ status. CountsStay status 0 0 (R.draw_faults random.old) (R.draw_faults random.new) 0 0) }
 {
     match master_key(alloc, master) {
@@ -186,6 +190,8 @@ pub fn keys_top<S: Source, T: Source, K: Keeper, R: Random, W: Sink>(
     ensures later { NoneFell (S.read_faults master.old) (S.read_faults master.new) (T.read_faults ring.old) (T.read_faults ring.new) (K.keeper_faults keeper.old) (K.keeper_faults keeper.new)
         (R.draw_faults random.old) (R.draw_faults random.new) (W.write_faults output.old) (W.write_faults output.new) }
     ensures stayed { CountsStay result (K.keeper_faults keeper.old) (K.keeper_faults keeper.new) (R.draw_faults random.old) (R.draw_faults random.new) (W.write_faults output.old) (W.write_faults output.new) }
+    ensures master_stayed { FileStayed result files.Master (S.read_faults master.old) (S.read_faults master.new) }
+    ensures ring_stayed { FileStayed result files.Ring (T.read_faults ring.old) (T.read_faults ring.new) }
 {
     match ask_of(words) {
         None => KeysStatus::Usage,

@@ -125,3 +125,21 @@ returns-in-Ok-clause-stayed g c = finish_counts _ _ _ _ _ _ c.finish.result c.fi
 
 pub returns-in-Err-clause-stayed : goal.returns-in-Err-clause-stayed
 returns-in-Err-clause-stayed g c = stop_counts _ _ _ _ _ _ _ _ c.in-Err.status c.in-Err.ensures.cause c.in-Err.ensures.stayed
+
+pub returns-in-None-clause-master_stayed : goal.returns-in-None-clause-master_stayed
+returns-in-None-clause-master_stayed g c not = refl
+
+pub returns-in-None-clause-ring_stayed : goal.returns-in-None-clause-ring_stayed
+returns-in-None-clause-ring_stayed g c not = refl
+
+pub returns-in-Ok-clause-master_stayed : goal.returns-in-Ok-clause-master_stayed
+returns-in-Ok-clause-master_stayed g c not = c.in-Ok.ensures.master_stayed
+
+pub returns-in-Ok-clause-ring_stayed : goal.returns-in-Ok-clause-ring_stayed
+returns-in-Ok-clause-ring_stayed g c not = c.in-Ok.ensures.ring_stayed
+
+pub returns-in-Err-clause-master_stayed : goal.returns-in-Err-clause-master_stayed
+returns-in-Err-clause-master_stayed g c not = c.in-Err.ensures.master_stayed not
+
+pub returns-in-Err-clause-ring_stayed : goal.returns-in-Err-clause-ring_stayed
+returns-in-Err-clause-ring_stayed g c not = c.in-Err.ensures.ring_stayed not

@@ -3,7 +3,9 @@ use Rattle.keys_core.proofs.Runs.{prepared, too_long_run, worked_caused, master_
 use Rattle.keys_core.proofs.Again.{with_key}
 use Rattle.keys_core.proofs.Draws.{drew_nothing, none_made, prepared_drew, long_drew, master_drew}
 use Rattle.keys_core.proofs.Order.{worked_order, master_order}
-use Rattle.keys_core.proofs.Untouched.{worked_untouched, master_untouched, same_count, same_counts}
+use Rattle.keys_core.proofs.Untouched.{worked_untouched, master_untouched, same_count, same_counts, read_stayed, other_refusal}
+use Rattle.ring_file.specs.declared.whole.FileRefusal.TheVariants as refusals
+use Rattle.keys_core.specs.declared.status.KeyFile.TheVariants as files
 use Rattle.keys_core.specs.Draws.{draws_of}
 use Rattle.keys_core.proofs.top.prepare.Goals as goal
 
@@ -130,3 +132,33 @@ returns-in-Err-clause-later g c = (c.master_key.ensures.later, (same_count _, sa
 
 pub returns-in-Err-clause-stayed : goal.returns-in-Err-clause-stayed
 returns-in-Err-clause-stayed g c = same_counts _ c.in-Err.status
+
+pub returns-in-Ok-read_file-clause-master_stayed : goal.returns-in-Ok-read_file-clause-master_stayed
+returns-in-Ok-read_file-clause-master_stayed g c = read_stayed c.worked.result files.Master _ _ c.in-Ok.ensures.stayed
+
+pub returns-in-Ok-read_file-clause-ring_stayed : goal.returns-in-Ok-read_file-clause-ring_stayed
+returns-in-Ok-read_file-clause-ring_stayed g c = read_stayed c.worked.result files.Ring _ _ (c.in-Ok-read_file.ensures.stayed (λ h. absurd cc))
+
+pub returns-in-Err-TooLong-clause-master_stayed : goal.returns-in-Err-TooLong-clause-master_stayed
+returns-in-Err-TooLong-clause-master_stayed g c not = c.in-Ok.ensures.stayed
+
+pub returns-in-Err-TooLong-clause-ring_stayed : goal.returns-in-Err-TooLong-clause-ring_stayed
+returns-in-Err-TooLong-clause-ring_stayed g c not = c.in-Err-TooLong.ensures.stayed (other_refusal refusals.TooLong _ c.in-Err-TooLong.field-0-is (λ h. absurd cc))
+
+pub returns-in-Err-ReadFault-clause-master_stayed : goal.returns-in-Err-ReadFault-clause-master_stayed
+returns-in-Err-ReadFault-clause-master_stayed g c not = c.in-Ok.ensures.stayed
+
+pub returns-in-Err-ReadFault-clause-ring_stayed : goal.returns-in-Err-ReadFault-clause-ring_stayed
+returns-in-Err-ReadFault-clause-ring_stayed g c not = absurd (not refl)
+
+pub returns-in-Err-NoMemory-clause-master_stayed : goal.returns-in-Err-NoMemory-clause-master_stayed
+returns-in-Err-NoMemory-clause-master_stayed g c not = c.in-Ok.ensures.stayed
+
+pub returns-in-Err-NoMemory-clause-ring_stayed : goal.returns-in-Err-NoMemory-clause-ring_stayed
+returns-in-Err-NoMemory-clause-ring_stayed g c not = c.in-Err-NoMemory.ensures.stayed (other_refusal refusals.NoMemory _ c.in-Err-NoMemory.field-0-is (λ h. absurd cc))
+
+pub returns-in-Err-clause-master_stayed : goal.returns-in-Err-clause-master_stayed
+returns-in-Err-clause-master_stayed g c not = c.in-Err.ensures.stayed not
+
+pub returns-in-Err-clause-ring_stayed : goal.returns-in-Err-clause-ring_stayed
+returns-in-Err-clause-ring_stayed g c not = refl

@@ -70,8 +70,8 @@ pub fn stream_spelled()
     ensures spelled { (who : Side) (limit : ℕ) (events : List Event) (t : Stream) → Run (new_stream who limit) events t → IsSpelled who limit events t }
 {}
 
-/// Frames don't depend on how a stream was cut. Of two runs over what one stream begins with, the frames of one begin those of the other; where the
-/// same was fed and neither has a frame left, they are the same.
+/// Frames don't depend on how a stream was cut. Of two runs over what one stream begins with, the frames of one
+/// begin those of the other; where the same was fed and neither has a frame left, they are the same.
 pub fn one_stream()
     ensures begins { (who : Side) (limit : ℕ) (a b : List Event) (s t : Stream) (more : List ℕ) → Run (new_stream who limit) a s → Run (new_stream who limit) b t
         → fed_bytes b ≡ fed_bytes a ++ more → Begins (given a) (given b) ⊎ Begins (given b) (given a) }
@@ -79,8 +79,8 @@ pub fn one_stream()
         → fed_bytes a ≡ fed_bytes b → IsDrained s → IsDrained t → given a ≡ given b }
 {}
 
-/// A client's message is made of its fields. Where a body can't be read is the end of the longest beginning that whole fields of some message of its
-/// type make, and a body has one such place.
+/// A client's message is made of its fields. The place where a body can't be read is the end of the longest beginning
+/// that whole fields of some message of its type make, and a body has one such place.
 pub fn front_places()
     ensures fields { (m : Front) → front_body m ≡ joined (front_fields m) }
     ensures place { (kind : ℕ) (body : List ℕ) (left : ℕ) → ((i : ℕ) → slice_index body i < 256) → front_read kind body ≡ Err left → IsFrontFault kind body (length body - left) }

@@ -28,6 +28,7 @@ pub enum FileFault {
 pub fn master_key<S: Source>(alloc: Global, file: &mut S) -> Result<[u8; 32], FileFault>
     ensures found { WhereRead (S.left file.old) (S.left file.new) (MasterFound result) }
     ensures later { S.read_faults file.old ≤ S.read_faults file.new }
+    ensures stayed { (IsErrOf result FileFault.ReadFault → ⊥) → S.read_faults file.new ≡ S.read_faults file.old }
     ensures fault { IsErrOf result FileFault.ReadFault → Rose (S.read_faults file.old) (S.read_faults file.new) }
 {
     match read_master(alloc, file) {
@@ -47,6 +48,7 @@ pub fn audit_key<S: Source>(
     ensures found { WhereRead (S.left file.old) (S.left file.new) (RingFound master.now result) }
     ensures exact { WhereRead (S.left file.old) (S.left file.new) (RingDue master.now result) }
     ensures later { S.read_faults file.old ≤ S.read_faults file.new }
+    ensures stayed { (IsErrOf result FileFault.ReadFault → ⊥) → S.read_faults file.new ≡ S.read_faults file.old }
     ensures fault { IsErrOf result FileFault.ReadFault → Rose (S.read_faults file.old) (S.read_faults file.new) }
 {
     match read_file(alloc, file, RING_LIMIT) {

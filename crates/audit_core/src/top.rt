@@ -33,6 +33,8 @@ pub fn audit_top<S: Source, T: Source, U: Source, K: Sink>(
     ensures whole { result ≡ AuditStatus.Done → IsAtEnd (U.left log.new) }
     ensures later { (S.read_faults master.old ≤ S.read_faults master.new) × (T.read_faults ring.old ≤ T.read_faults ring.new)
         × (U.read_faults log.old ≤ U.read_faults log.new) × (K.write_faults output.old ≤ K.write_faults output.new) }
+    ensures master_stayed { (result ≡ AuditStatus.ReadFault FolderFile.Master → ⊥) → S.read_faults master.new ≡ S.read_faults master.old }
+    ensures keystore_stayed { (result ≡ AuditStatus.ReadFault FolderFile.Keystore → ⊥) → T.read_faults ring.new ≡ T.read_faults ring.old }
     ensures log_stayed { (result ≡ AuditStatus.ReadFault FolderFile.Audit → ⊥) → U.read_faults log.new ≡ U.read_faults log.old }
     ensures output_stayed { (result ≡ AuditStatus.WriteFault → ⊥) → K.write_faults output.new ≡ K.write_faults output.old }
     ensures master_fault { result ≡ AuditStatus.ReadFault FolderFile.Master → Rose (S.read_faults master.old) (S.read_faults master.new) }

@@ -26,7 +26,7 @@ pub enum Status {
     #[error("NoMemory: out of memory")]
     NoMemory,
     /// 2^48 bytes were read.
-    #[error("Spent: the input is longer than 2^48 bytes")]
+    #[error("Spent: the input is 2^48 bytes or more")]
     Spent,
 }
 

@@ -1,9 +1,7 @@
 -- Reading goes along fields: a field by itself, keys, and clients.
-use Rattle.std.proofs.Common.{◌≡◌, ℕ, zero, suc, ◌+◌, ◌-◌, ◌<◌, ◌≤◌, ◌&&◌, ◌||◌, ◌==◌, Bool, true, false, if◌then◌else◌, eqb, leb, ltb, List, [], ◌∷◌, ◌++◌, length, take, drop, Option, Some, None, Result, Ok, Err, refl, sym, ap, subst, ◌∙◌, arith, inl, inr, ◌⊎◌}
-use Rattle.std.specs.List.{AllByRecursion, list_any, list_all, flat_map}
+use Rattle.std.proofs.Common.{◌≡◌, ℕ, zero, suc, ◌-◌, ◌&&◌, ◌==◌, Bool, true, false, if◌then◌else◌, eqb, leb, ltb, List, [], ◌∷◌, ◌++◌, length, take, drop, Option, Some, None, Result, Ok, Err, refl, sym, ap, subst, ◌∙◌, inl, inr, ◌⊎◌}
+use Rattle.std.specs.List.{list_any, list_all}
 use Rattle.std.specs.Int.{Width, w16, w64, byte_len, from_le_bytes}
-use Rattle.std.specs.Ordering.{is_lt}
-use Rattle.std.specs.declared.cmp.Ordering.TheVariants.{Less}
 use Rattle.std.proofs.lemmas.Bool.{leb-true, le-leb, eqb-true}
 use Rattle.acra_base.specs.Client.{is_id_byte}
 use Rattle.keystore.specs.declared.phase.OldPhase.{OldPhase}
@@ -13,13 +11,13 @@ use Rattle.keystore.specs.Lists.{AscendsBy}
 use Rattle.keystore.specs.Rings.{ClientKeys, RingState, name_cmp, restored_ring}
 use Rattle.keystore.specs.Kept.{IsOlder, has_id, has_old}
 use Rattle.keystore.proofs.Items.{ascends_push}
-use Rattle.byte_reader.specs.Fields.{◌>>=◌, byte_at, le_number_at, bytes_at}
-use Rattle.ring_file.specs.Reading.{judged, next_id_at, client_count_at, key_count_at, name_length_at, old_phase_in, old_phase_at, current_at, last_of, comes_after, can_be_name, name_at, id_or_zero, can_be_id, id_at, old_key_at, old_keys_at, keys_at, client_at, clients_at, ring_behind, ring_at}
-use Rattle.ring_file.specs.Fields.{Told, Awaits, number16, number64, ComesAfter, is_among, Follows, IsEnd, NoField}
+use Rattle.byte_reader.specs.Fields.{◌>>=◌, le_number_at, bytes_at}
+use Rattle.ring_file.specs.Reading.{judged, next_id_at, client_count_at, key_count_at, name_length_at, old_phase_in, old_phase_at, current_at, last_of, comes_after, can_be_name, name_at, can_be_id, id_at, old_key_at, old_keys_at, keys_at, client_at, clients_at, ring_behind, ring_at}
+use Rattle.ring_file.specs.Fields.{Told, Awaits, number16, number64, ComesAfter, IsEnd}
 use Rattle.ring_file.proofs.Rules.{both_true, either_false, is_less, last_below, id_can, can_id}
 use Rattle.ring_file.proofs.Sorted.{key_ok, keys_ok}
-use Rattle.ring_file.proofs.Walks.{Went, Tells, went_none, went_one, stuck_here, judged_tells, read_so, Rules, so_tells, bind_if, byte_tells, tells_then}
-use Rattle.ring_file.proofs.Rows.{old_id_list, ids_of, name_in, told_of, told_at, told_key, told_client, among_taken, old_free, none_of_both}
+use Rattle.ring_file.proofs.Walks.{Went, Tells, went_none, went_one, stuck_here, judged_tells, Rules, so_tells, bind_if, byte_tells, tells_then}
+use Rattle.ring_file.proofs.Rows.{name_in, told_of, told_at, told_key, told_client, among_taken, old_free, none_of_both}
 
 number_tells : (s : Awaits) (w : Width) (can : ℕ → Bool) (after : ℕ → Awaits) (bytes : List ℕ) → (IsEnd s → ⊥) → Rules s (byte_len w) (from_le_bytes w) (λ f. can (from_le_bytes w f)) after
     → Tells s bytes after (le_number_at w bytes >>= λ n. judged (can n.0) (length bytes) n)
@@ -45,9 +43,10 @@ many_tells next bytes =
 
 count_tells : (told : Told) (left : ℕ) (bytes : List ℕ) → Tells (Awaits.KeyCount told left) bytes (λ n. Awaits.Id told left (n - 1)) (key_count_at bytes)
 count_tells told left bytes =
-    number_tells (Awaits.KeyCount told left) w16 (λ n. leb 1 n && leb n 256) (λ n. Awaits.Id told left (n - 1)) bytes (λ e. e)
-    (λ f len can. let two = both_true (leb 1 (number16 f)) (leb (number16 f) 256) can in (len, leb-true _ _ two.0, leb-true _ _ two.1, refl),
-     λ f t h. (h.0, rw (le-leb _ _ h.1, le-leb _ _ h.2) refl))
+    number_tells (Awaits.KeyCount told left) w16 (λ n. leb 1 n && leb n 256) (λ n. Awaits.Id told left (n - 1)) bytes (λ e. e) (
+      λ f len can. let two = both_true (leb 1 (number16 f)) (leb (number16 f) 256) can in (len, leb-true _ _ two.0, leb-true _ _ two.1, refl),
+      λ f t h. (h.0, rw (le-leb _ _ h.1, le-leb _ _ h.2) refl),
+    )
 
 head_same : (b c : ℕ) (rest g more : List ℕ) → g ≡ c ∷ [] → b ∷ rest ≡ g ++ more → b ≡ c
 head_same b c rest g more p e = let q : b ∷ rest ≡ c ∷ more = e ∙ ap (λ (t : List ℕ). t ++ more) p in cc
@@ -56,18 +55,18 @@ length_tells : (told : Told) (left : ℕ) (bytes : List ℕ) → Tells (Awaits.N
 length_tells told left bytes =
     byte_tells (Awaits.NameLength told (suc left)) (λ n. Awaits.Name told left n) (λ bytes n. judged (leb 1 n.0 && leb n.0 64) (length bytes) n) bytes (λ e. e) (λ g t h. ap length h.1)
     (λ b rest. judged_tells (leb 1 b && leb b 64) (Awaits.NameLength told (suc left)) (b ∷ rest) (b ∷ []) (b, rest) (λ n. Awaits.Name told left n) (λ e. e) refl
-      (λ can. let two = both_true (leb 1 b) (leb b 64) can in (b, refl, leb-true _ _ two.0, leb-true _ _ two.1, refl))
-      (λ cannot g more t h e. let same = head_same b h.0 rest g more h.1 e in
-        let can : (leb 1 h.0 && leb h.0 64) ≡ true = rw (le-leb _ _ h.2, le-leb _ _ h.3) refl in
-        let both : true ≡ false = sym can ∙ (ap (λ (n : ℕ). leb 1 n && leb n 64) (sym same) ∙ cannot) in cc both))
+    (λ can. let two = both_true (leb 1 b) (leb b 64) can in (b, refl, leb-true _ _ two.0, leb-true _ _ two.1, refl))
+    (λ cannot g more t h e. let same = head_same b h.0 rest g more h.1 e in
+    let can : (leb 1 h.0 && leb h.0 64) ≡ true = rw (le-leb _ _ h.2, le-leb _ _ h.3) refl in
+    let both : true ≡ false = sym can ∙ (ap (λ (n : ℕ). leb 1 n && leb n 64) (sym same) ∙ cannot) in cc both))
 
 current_tells : (told : Told) (left : ℕ) (bytes : List ℕ) → Tells (Awaits.Phase told left zero) bytes (λ n. Awaits.KeyBytes told left zero) (current_at bytes)
 current_tells told left bytes =
     byte_tells (Awaits.Phase told left zero) (λ n. Awaits.KeyBytes told left zero) (λ bytes n. judged (n.0 == 0) (length bytes) n) bytes (λ e. e) (λ g t h. ap length h.0)
     (λ b rest. judged_tells (b == 0) (Awaits.Phase told left zero) (b ∷ rest) (b ∷ []) (b, rest) (λ n. Awaits.KeyBytes told left zero) (λ e. e) refl
-      (λ can. (ap (λ (n : ℕ). n ∷ []) (eqb-true b 0 can), refl))
-      (λ cannot g more t h e. let same = head_same b 0 rest g more h.0 e in
-        let both : true ≡ false = ap (λ (n : ℕ). eqb n 0) (sym same) ∙ cannot in cc both))
+    (λ can. (ap (λ (n : ℕ). n ∷ []) (eqb-true b 0 can), refl))
+    (λ cannot g more t h e. let same = head_same b 0 rest g more h.0 e in
+    let both : true ≡ false = ap (λ (n : ℕ). eqb n 0) (sym same) ∙ cannot in cc both))
 
 -- ---- fields behind others
 
@@ -77,15 +76,17 @@ name_tells next left n before bytes =
     let s = Awaits.Name (told_at next before) left n in
     let after : List ℕ → Awaits = λ f. Awaits.SearchKey (told_of next before [] (Some f)) left in
     subst (Tells s bytes after) (sym (bind_if (ltb (length bytes) n) (length bytes) (take n bytes, drop n bytes) (λ name. judged (can_be_name before name.0) (length bytes) name)))
-    (so_tells s n (λ f. f) (can_be_name before) after bytes (λ e. e)
-      (λ f len can. let two = both_true (list_all is_id_byte f) (comes_after (last_of before) f) can in (len, two.0, behind (last_of before) f two.1, refl),
-       λ f t h. (h.0, rw (h.1, ahead (last_of before) f h.2) refl))) where
-  behind : (o : Option ClientKeys) (f : List ℕ) → comes_after o f ≡ true → ComesAfter (name_in o) f
-  behind None f h = tt
-  behind (Some c) f h = is_less (name_cmp c.name f) h
-  ahead : (o : Option ClientKeys) (f : List ℕ) → ComesAfter (name_in o) f → comes_after o f ≡ true
-  ahead None f h = refl
-  ahead (Some c) f h = rw h refl
+    (so_tells s n (λ f. f) (can_be_name before) after bytes (λ e. e) (
+      λ f len can. let two = both_true (list_all is_id_byte f) (comes_after (last_of before) f) can in (len, two.0, behind (last_of before) f two.1, refl),
+      λ f t h. (h.0, rw (h.1, ahead (last_of before) f h.2) refl),
+    )) where
+      behind : (o : Option ClientKeys) (f : List ℕ) → comes_after o f ≡ true → ComesAfter (name_in o) f
+      behind None f h = tt
+      behind (Some c) f h = is_less (name_cmp c.name f) h
+
+      ahead : (o : Option ClientKeys) (f : List ℕ) → ComesAfter (name_in o) f → comes_after o f ≡ true
+      ahead None f h = refl
+      ahead (Some c) f h = rw h refl
 
 abbrev with_id : Told → ℕ → Told
 with_id told id = record told { last = id; taken = told.taken ++ id ∷ [] }
@@ -94,12 +95,13 @@ id_tells : (next left more : ℕ) (before : List ClientKeys) (past : List OldKey
     → Tells (Awaits.Id (told_of next before past name) left more) bytes (λ id. Awaits.Phase (with_id (told_of next before past name) id) left more) (id_at next before past bytes)
 unfolding id_at
 id_tells next left more before past name bytes up =
-    number_tells (Awaits.Id (told_of next before past name) left more) w64 (can_be_id next before past) (λ id. Awaits.Phase (with_id (told_of next before past name) id) left more) bytes (λ e. e)
-    (λ f len can. let id = number64 f in
-      let a = id_can next before past id can in
-      let free = none_of_both (list_any (has_id id) before) (has_old id past) a.1.1 (old_free id past (last_below past id up a.0)) in
-      (len, a.0, a.1.0, among_taken id before past ∙ free, refl),
-     λ f t h. (h.0, can_id next before past (number64 f) h.1 h.2 (either_false (list_any (has_id (number64 f)) before) (has_old (number64 f) past) (sym (among_taken (number64 f) before past) ∙ h.3)).0))
+    number_tells (Awaits.Id (told_of next before past name) left more) w64 (can_be_id next before past) (λ id. Awaits.Phase (with_id (told_of next before past name) id) left more) bytes (λ e. e) (
+      λ f len can. let id = number64 f in
+          let a = id_can next before past id can in
+          let free = none_of_both (list_any (has_id id) before) (has_old id past) a.1.1 (old_free id past (last_below past id up a.0)) in
+          (len, a.0, a.1.0, among_taken id before past ∙ free, refl),
+      λ f t h. (h.0, can_id next before past (number64 f) h.1 h.2 (either_false (list_any (has_id (number64 f)) before) (has_old (number64 f) past) (sym (among_taken (number64 f) before past) ∙ h.3)).0),
+    )
 
 phase_long : (g : List ℕ) → (g ≡ 1 ∷ []) ⊎ (g ≡ 2 ∷ []) → length g ≡ 1
 phase_long g (inl h) = ap length h
@@ -135,13 +137,13 @@ old_tells next left more before past name bytes up =
     (λ id. old_phase_at id.1 >>= λ phase. bytes_at 32 phase.1 >>= λ key. Ok (record { id = id.0; key = key.0; phase = phase.0 }, key.1))
     (id_tells next left (suc more) before past name bytes up)
     (λ id _. tells_then (Awaits.Phase (with_id told id.0) left (suc more)) id.1 (λ p. Awaits.KeyBytes (with_id told id.0) left (suc more)) ends (old_phase_at id.1)
-      (λ phase. bytes_at 32 phase.1 >>= λ key. Ok (record { id = id.0; key = key.0; phase = phase.0 }, key.1))
-      (phase_tells (with_id told id.0) left more id.1)
-      (λ phase _. tells_then (Awaits.KeyBytes (with_id told id.0) left (suc more)) phase.1 (λ f. Awaits.Id (with_id told id.0) left more) ends (bytes_at 32 phase.1)
-        (λ key. Ok (record { id = id.0; key = key.0; phase = phase.0 }, key.1))
-        (key_tells (Awaits.KeyBytes (with_id told id.0) left (suc more)) (Awaits.Id (with_id told id.0) left more) phase.1 (λ e. e) (λ f len can. (len, refl), λ f t h. (h.0, refl)))
-        (λ key _. let k : OldKey = record { id = id.0; key = key.0; phase = phase.0 } in
-          subst (λ (t : Told). Went (Awaits.Id (with_id told id.0) left more) key.1 (Awaits.Id t left more) key.1) (told_key next before past k name) (went_none (Awaits.Id (with_id told id.0) left more) key.1))))
+    (λ phase. bytes_at 32 phase.1 >>= λ key. Ok (record { id = id.0; key = key.0; phase = phase.0 }, key.1))
+    (phase_tells (with_id told id.0) left more id.1)
+    (λ phase _. tells_then (Awaits.KeyBytes (with_id told id.0) left (suc more)) phase.1 (λ f. Awaits.Id (with_id told id.0) left more) ends (bytes_at 32 phase.1)
+    (λ key. Ok (record { id = id.0; key = key.0; phase = phase.0 }, key.1))
+    (key_tells (Awaits.KeyBytes (with_id told id.0) left (suc more)) (Awaits.Id (with_id told id.0) left more) phase.1 (λ e. e) (λ f len can. (len, refl), λ f t h. (h.0, refl)))
+    (λ key _. let k : OldKey = record { id = id.0; key = key.0; phase = phase.0 } in
+    subst (λ (t : Told). Went (Awaits.Id (with_id told id.0) left more) key.1 (Awaits.Id t left more) key.1) (told_key next before past k name) (went_none (Awaits.Id (with_id told id.0) left more) key.1))))
 
 olds_tell : (next left more : ℕ) (before : List ClientKeys) (past : List OldKey) (name : Option (List ℕ)) (bytes : List ℕ) → AscendsBy IsOlder past
     → Tells (Awaits.Id (told_of next before past name) left more) bytes (λ ks. Awaits.Id (told_of next before ks name) left zero) (old_keys_at next before more past bytes)
@@ -152,7 +154,7 @@ olds_tell next left (suc more) before past name bytes up =
     (λ key. old_keys_at next before more (past ++ key.0 ∷ []) key.1)
     (old_tells next left more before past name bytes up)
     (λ key e. olds_tell next left more before (past ++ key.0 ∷ []) name key.1
-      (let can = id_can next before past key.0.id (key_ok next before past bytes key e) in ascends_push IsOlder past key.0 up (last_below past key.0.id up can.0)))
+    (let can = id_can next before past key.0.id (key_ok next before past bytes key e) in ascends_push IsOlder past key.0 up (last_below past key.0.id up can.0)))
 
 abbrev at_client : ℕ → ℕ → List ClientKeys → ClientKeys → Awaits
 at_client next left before c = Awaits.NameLength (told_at next (before ++ c ∷ [])) left
@@ -167,14 +169,14 @@ last_tells next left before past name search bytes up =
     (λ id. current_at id.1 >>= λ current. bytes_at 32 current.1 >>= λ key. Ok (record { name = name; search = search; id = id.0; key = key.0; past = past }, key.1))
     (id_tells next left zero before past (Some name) bytes up)
     (λ id _. tells_then (Awaits.Phase (with_id told id.0) left zero) id.1 (λ p. Awaits.KeyBytes (with_id told id.0) left zero) ends (current_at id.1)
-      (λ current. bytes_at 32 current.1 >>= λ key. Ok (record { name = name; search = search; id = id.0; key = key.0; past = past }, key.1))
-      (current_tells (with_id told id.0) left id.1)
-      (λ current _. let at = Awaits.NameLength (record (with_id told id.0) { last = 0 }) left in
-        tells_then (Awaits.KeyBytes (with_id told id.0) left zero) current.1 (λ f. at) ends (bytes_at 32 current.1)
-        (λ key. Ok (record { name = name; search = search; id = id.0; key = key.0; past = past }, key.1))
-        (key_tells (Awaits.KeyBytes (with_id told id.0) left zero) at current.1 (λ e. e) (λ f len can. (len, refl), λ f t h. (h.0, refl)))
-        (λ key _. let c : ClientKeys = record { name = name; search = search; id = id.0; key = key.0; past = past } in
-          subst (λ (t : Told). Went at key.1 (Awaits.NameLength t left) key.1) (told_client next before c) (went_none at key.1))))
+    (λ current. bytes_at 32 current.1 >>= λ key. Ok (record { name = name; search = search; id = id.0; key = key.0; past = past }, key.1))
+    (current_tells (with_id told id.0) left id.1)
+    (λ current _. let at = Awaits.NameLength (record (with_id told id.0) { last = 0 }) left in
+    tells_then (Awaits.KeyBytes (with_id told id.0) left zero) current.1 (λ f. at) ends (bytes_at 32 current.1)
+    (λ key. Ok (record { name = name; search = search; id = id.0; key = key.0; past = past }, key.1))
+    (key_tells (Awaits.KeyBytes (with_id told id.0) left zero) at current.1 (λ e. e) (λ f len can. (len, refl), λ f t h. (h.0, refl)))
+    (λ key _. let c : ClientKeys = record { name = name; search = search; id = id.0; key = key.0; past = past } in
+    subst (λ (t : Told). Went at key.1 (Awaits.NameLength t left) key.1) (told_client next before c) (went_none at key.1))))
 
 keys_tell : (next left : ℕ) (before : List ClientKeys) (name search bytes : List ℕ)
     → Tells (Awaits.KeyCount (told_of next before [] (Some name)) left) bytes (at_client next left before) (keys_at next before name search bytes)
@@ -186,9 +188,9 @@ keys_tell next left before name search bytes =
     (λ count. old_keys_at next before (count.0 - 1) [] count.1 >>= λ past. id_at next before past.0 past.1 >>= λ id. current_at id.1 >>= λ current. bytes_at 32 current.1 >>= λ key. Ok (record { name = name; search = search; id = id.0; key = key.0; past = past.0 }, key.1))
     (count_tells told left bytes)
     (λ count _. tells_then (Awaits.Id told left (count.0 - 1)) count.1 (λ ks. Awaits.Id (told_of next before ks (Some name)) left zero) ends (old_keys_at next before (count.0 - 1) [] count.1)
-      (λ past. id_at next before past.0 past.1 >>= λ id. current_at id.1 >>= λ current. bytes_at 32 current.1 >>= λ key. Ok (record { name = name; search = search; id = id.0; key = key.0; past = past.0 }, key.1))
-      (olds_tell next left (count.0 - 1) before [] (Some name) count.1 tt)
-      (λ past e. last_tells next left before past.0 name search past.1 (keys_ok next before (count.0 - 1) [] count.1 past tt e)))
+    (λ past. id_at next before past.0 past.1 >>= λ id. current_at id.1 >>= λ current. bytes_at 32 current.1 >>= λ key. Ok (record { name = name; search = search; id = id.0; key = key.0; past = past.0 }, key.1))
+    (olds_tell next left (count.0 - 1) before [] (Some name) count.1 tt)
+    (λ past e. last_tells next left before past.0 name search past.1 (keys_ok next before (count.0 - 1) [] count.1 past tt e)))
 
 -- ---- clients
 
@@ -200,13 +202,13 @@ client_tells next left before bytes =
     (λ len. name_at before len.0 len.1 >>= λ name. bytes_at 32 name.1 >>= λ search. keys_at next before name.0 search.0 search.1)
     (length_tells (told_at next before) left bytes)
     (λ len _. tells_then (Awaits.Name (told_at next before) left len.0) len.1 (λ f. Awaits.SearchKey (told_of next before [] (Some f)) left) ends (name_at before len.0 len.1)
-      (λ name. bytes_at 32 name.1 >>= λ search. keys_at next before name.0 search.0 search.1)
-      (name_tells next left len.0 before len.1)
-      (λ name _. let told = told_of next before [] (Some name.0) in
-        tells_then (Awaits.SearchKey told left) name.1 (λ f. Awaits.KeyCount told left) ends (bytes_at 32 name.1)
-        (λ search. keys_at next before name.0 search.0 search.1)
-        (key_tells (Awaits.SearchKey told left) (Awaits.KeyCount told left) name.1 (λ e. e) (λ f len can. (len, refl), λ f t h. (h.0, refl)))
-        (λ search _. keys_tell next left before name.0 search.0 search.1)))
+    (λ name. bytes_at 32 name.1 >>= λ search. keys_at next before name.0 search.0 search.1)
+    (name_tells next left len.0 before len.1)
+    (λ name _. let told = told_of next before [] (Some name.0) in
+    tells_then (Awaits.SearchKey told left) name.1 (λ f. Awaits.KeyCount told left) ends (bytes_at 32 name.1)
+    (λ search. keys_at next before name.0 search.0 search.1)
+    (key_tells (Awaits.SearchKey told left) (Awaits.KeyCount told left) name.1 (λ e. e) (λ f len can. (len, refl), λ f t h. (h.0, refl)))
+    (λ search _. keys_tell next left before name.0 search.0 search.1)))
 
 pub clients_tell : (next left : ℕ) (before : List ClientKeys) (bytes : List ℕ) → Tells (Awaits.NameLength (told_at next before) left) bytes (λ cs. Awaits.NameLength (told_at next cs) zero) (clients_at next left before bytes)
 unfolding clients_at
@@ -228,12 +230,12 @@ behind_tells token store audit bytes =
     (λ next. client_count_at next.1 >>= λ count. clients_at next.0 count.0 [] count.1 >>= λ clients. Ok (restored_ring token store audit clients.0 next.0, clients.1))
     (next_tells bytes)
     (λ next _. tells_then (Awaits.ClientCount next.0) next.1 (λ n. Awaits.NameLength (told_at next.0 []) n) at_ring (client_count_at next.1)
-      (λ count. clients_at next.0 count.0 [] count.1 >>= λ clients. Ok (restored_ring token store audit clients.0 next.0, clients.1))
-      (many_tells next.0 next.1)
-      (λ count _. tells_then (Awaits.NameLength (told_at next.0 []) count.0) count.1 (λ cs. Awaits.NameLength (told_at next.0 cs) zero) at_ring (clients_at next.0 count.0 [] count.1)
-        (λ clients. Ok (restored_ring token store audit clients.0 next.0, clients.1))
-        (clients_tell next.0 count.0 [] count.1)
-        (λ clients _. went_none (Awaits.NameLength (told_at next.0 clients.0) zero) clients.1)))
+    (λ count. clients_at next.0 count.0 [] count.1 >>= λ clients. Ok (restored_ring token store audit clients.0 next.0, clients.1))
+    (many_tells next.0 next.1)
+    (λ count _. tells_then (Awaits.NameLength (told_at next.0 []) count.0) count.1 (λ cs. Awaits.NameLength (told_at next.0 cs) zero) at_ring (clients_at next.0 count.0 [] count.1)
+    (λ clients. Ok (restored_ring token store audit clients.0 next.0, clients.1))
+    (clients_tell next.0 count.0 [] count.1)
+    (λ clients _. went_none (Awaits.NameLength (told_at next.0 clients.0) zero) clients.1)))
 
 own_tells : (s t : Awaits) (bytes : List ℕ) (f : List ℕ × List ℕ → Result (RingState × List ℕ) ℕ) → (IsEnd s → ⊥) → Rules s 32 (λ f. f) (λ f. true) (λ f. t) → ((x : List ℕ × List ℕ) → Tells t x.1 at_ring (f x)) → Tells s bytes at_ring (bytes_at 32 bytes >>= f)
 own_tells s t bytes f going rules h = tells_then s bytes (λ f. t) at_ring (bytes_at 32 bytes) f (key_tells s t bytes going rules) (λ x _. h x)
@@ -243,5 +245,5 @@ unfolding ring_at
 ring_tells bytes =
     own_tells Awaits.TokenKey Awaits.StoreKey bytes (λ token. bytes_at 32 token.1 >>= λ store. bytes_at 32 store.1 >>= λ audit. ring_behind token.0 store.0 audit.0 audit.1) (λ e. e) (λ f len can. (len, refl), λ f t h. (h.0, refl))
     (λ token. own_tells Awaits.StoreKey Awaits.AuditKey token.1 (λ store. bytes_at 32 store.1 >>= λ audit. ring_behind token.0 store.0 audit.0 audit.1) (λ e. e) (λ f len can. (len, refl), λ f t h. (h.0, refl))
-      (λ store. own_tells Awaits.AuditKey Awaits.NextId store.1 (λ audit. ring_behind token.0 store.0 audit.0 audit.1) (λ e. e) (λ f len can. (len, refl), λ f t h. (h.0, refl))
-        (λ audit. behind_tells token.0 store.0 audit.0 audit.1)))
+    (λ store. own_tells Awaits.AuditKey Awaits.NextId store.1 (λ audit. ring_behind token.0 store.0 audit.0 audit.1) (λ e. e) (λ f len can. (len, refl), λ f t h. (h.0, refl))
+    (λ audit. behind_tells token.0 store.0 audit.0 audit.1)))

@@ -1,15 +1,14 @@
 -- Where a body can't be read is the one place at which its fields end.
-use Rattle.std.proofs.Common.{◌≡◌, ℕ, zero, suc, ◌+◌, ◌-◌, ◌<◌, ◌≤◌, Bool, true, false, if◌then◌else◌, eqb, List, [], ◌∷◌, ◌++◌, length, take, drop, get_or, Result, Ok, Err, refl, sym, ap, subst, ◌∙◌, append_assoc, arith, inl, inr, ◌⊎◌}
-use Rattle.std.proofs.lemmas.Bool.{eqb-true, eq-eqb}
-use Rattle.std.proofs.lemmas.List.{append-nil, append_cancel_left, length-append, length-drop, take_at, drop_at, take-append-drop}
+use Rattle.std.proofs.Common.{◌≡◌, ℕ, zero, suc, ◌+◌, ◌-◌, ◌<◌, Bool, true, false, eqb, List, [], ◌∷◌, ◌++◌, length, take, drop, get_or, Result, Ok, Err, refl, sym, ap, subst, ◌∙◌, append_assoc, arith, inl, inr}
+use Rattle.std.proofs.lemmas.Bool.{eqb-true}
+use Rattle.std.proofs.lemmas.List.{append-nil, length-append, length-drop, take_at, drop_at, take-append-drop}
 use Rattle.keystore.specs.Rings.{RingState}
 use Rattle.byte_reader.specs.Fields.{◌>>=◌, alone}
-use Rattle.byte_reader.proofs.Steps.{ok_is}
 use Rattle.ring_file.specs.Form.{ring_body, IsFileRing}
 use Rattle.ring_file.specs.Reading.{ring_at, ring_read}
-use Rattle.ring_file.specs.Fields.{Told, Awaits, Follows, Fields, joined, IsEnd, IsWhole, NoField, IsFaultPlace}
+use Rattle.ring_file.specs.Fields.{Awaits, Follows, Fields, joined, IsEnd, IsWhole, NoField, IsFaultPlace}
 use Rattle.ring_file.proofs.Bodies.{body_takes, body_again}
-use Rattle.ring_file.proofs.Walks.{Went, Stuck, Tells}
+use Rattle.ring_file.proofs.Walks.{Stuck, Tells}
 use Rattle.ring_file.proofs.Along.{at_ring, ring_tells}
 
 abbrev failed : {A : Type 0} → ℕ → Result A ℕ
@@ -25,9 +24,9 @@ alone_err x left true e h = absurd (cc (rw e at h))
 alone_err x left false e h =
     let same : length x.1 ≡ left = err_is (length x.1) left (rw e at h) in
     (same, positive (length x.1) left same e) where
-  positive : (n left : ℕ) → n ≡ left → eqb n 0 ≡ false → 0 < left
-  positive zero left p q = absurd (cc q)
-  positive (suc n) left p q = omega (arith, p)
+      positive : (n left : ℕ) → n ≡ left → eqb n 0 ≡ false → 0 < left
+      positive zero left p q = absurd (cc q)
+      positive (suc n) left p q = omega (arith, p)
 
 stuck_by : (body : List ℕ) (r : Result (RingState × List ℕ) ℕ) (left : ℕ) → Tells Awaits.TokenKey body at_ring r → (r >>= alone) ≡ Err left → Stuck Awaits.TokenKey body left
 stuck_by body (Ok x) left h e =
@@ -63,6 +62,7 @@ whole_by body (Ok x) ring h e = record { fields = h.fields; at = at_ring x.0; fo
   ended : (b : Bool) → eqb (length x.1) 0 ≡ b → alone x ≡ Ok ring → length x.1 ≡ 0
   ended true p q = eqb-true _ _ p
   ended false p q = absurd (cc (rw p at q))
+
   none_left : (xs : List ℕ) → length xs ≡ 0 → xs ≡ []
   none_left [] p = refl
   none_left (x ∷ xs) p = absurd (omega (arith, p))
@@ -108,7 +108,7 @@ is_wide (Awaits.SearchKey told left) t f h = h.0
 is_wide (Awaits.KeyCount told left) t f h = h.0
 is_wide (Awaits.Id told left more) t f h = h.0
 is_wide (Awaits.Phase told left zero) t f h = one_byte f 0 h.0
-is_wide (Awaits.Phase told left (suc more)) t f h = elim h.0 [ | inl e ↦ one_byte f 1 e | inr e ↦ one_byte f 2 e ]
+is_wide (Awaits.Phase told left (suc more)) t f h = elim h.0 [ inl e ↦ one_byte f 1 e | inr e ↦ one_byte f 2 e ]
 is_wide (Awaits.KeyBytes told left zero) t f h = h.0
 is_wide (Awaits.KeyBytes told left (suc more)) t f h = h.0
 

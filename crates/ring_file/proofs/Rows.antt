@@ -45,8 +45,8 @@ pub told_client : (next : ℕ) (before : List ClientKeys) (c : ClientKeys)
 told_client next before c =
     told_same next (Some c.name) (name_in (last_of (before ++ c ∷ []))) 0 0 _ _ (sym (ap name_in (last_push before c))) refl
     (append_assoc (flat_map ids_of before) (old_id_list c.past) (c.id ∷ [])
-     ∙ (ap (λ (t : List ℕ). flat_map ids_of before ++ t) (sym (append-nil (ids_of c)))
-     ∙ (sym (flat_map-append ids_of before (c ∷ [])) ∙ sym (append-nil (flat_map ids_of (before ++ c ∷ []))))))
+    ∙ (ap (λ (t : List ℕ). flat_map ids_of before ++ t) (sym (append-nil (ids_of c)))
+    ∙ (sym (flat_map-append ids_of before (c ∷ [])) ∙ sym (append-nil (flat_map ids_of (before ++ c ∷ []))))))
 
 -- ---- ids that are taken
 

@@ -1,5 +1,5 @@
 -- Ids and names in order, and apart.
-use Rattle.std.proofs.Common.{◌≡◌, ℕ, ◌<◌, ◌≤◌, ◌+◌, ◌&&◌, ◌||◌, ◌⊎◌, not, Bool, true, false, if◌then◌else◌, eqb, ltb, List, [], ◌∷◌, ◌++◌, length, Option, Some, None, is_some, refl, sym, ap, subst, ◌∙◌, append_assoc, arith, inl, inr}
+use Rattle.std.proofs.Common.{◌≡◌, ℕ, ◌<◌, ◌≤◌, ◌&&◌, ◌||◌, ◌⊎◌, not, Bool, true, false, if◌then◌else◌, eqb, ltb, List, [], ◌∷◌, ◌++◌, Option, Some, is_some, refl, sym, subst, ◌∙◌, arith, inl, inr}
 use Rattle.std.specs.List.{AllByRecursion, list_any}
 use Rattle.std.specs.Ordering.{is_lt}
 use Rattle.std.specs.declared.cmp.Ordering.{Ordering}
@@ -10,7 +10,6 @@ use Rattle.keystore.specs.declared.phase.OldKey.{OldKey}
 use Rattle.keystore.specs.Lists.{first, AscendsBy}
 use Rattle.keystore.specs.Rings.{ClientKeys, name_cmp, is_key}
 use Rattle.keystore.specs.Kept.{IsOlder, IsBefore, IsApart, has_old, has_id}
-use Rattle.keystore.proofs.Items.{all_push, ascends_push}
 use Rattle.ring_file.specs.Reading.{last_of, comes_after, id_or_zero, can_be_id}
 
 -- ---- tests

@@ -1,13 +1,13 @@
 -- A body that is read is the one that was written, and what was written is read again.
-use Rattle.std.proofs.Common.{◌≡◌, ℕ, ◌<◌, ◌≤◌, ◌+◌, ◌^◌, ◌==◌, Bool, true, false, eqb, leb, List, [], ◌∷◌, ◌++◌, length, Result, Ok, Err, refl, sym, ap, subst, ◌∙◌, append_assoc, arith}
+use Rattle.std.proofs.Common.{◌≡◌, ℕ, ◌<◌, ◌≤◌, ◌^◌, Bool, true, false, eqb, leb, List, [], ◌∷◌, ◌++◌, length, Ok, refl, sym, ap, subst, ◌∙◌, arith}
 use Rattle.std.specs.List.{AllByRecursion, flat_map}
 use Rattle.std.specs.Int.{w16, w64, to_le_bytes}
 use Rattle.std.proofs.lemmas.List.{append-nil}
 use Rattle.std.proofs.lemmas.Bool.{eqb-true, leb-true, le-leb}
 use Rattle.keystore.specs.declared.tickets.Ticket.{Ticket}
 use Rattle.keystore.specs.Rings.{ClientKeys, RingState, restored_ring}
-use Rattle.keystore.specs.Kept.{IsKeyed, IsKept}
-use Rattle.ring_file.specs.Form.{client_bytes, ring_body, IsFileClient, IsFileRing}
+use Rattle.keystore.specs.Kept.{IsKeyed}
+use Rattle.ring_file.specs.Form.{client_bytes, ring_body, IsFileRing}
 use Rattle.byte_reader.proofs.Steps.{bind_ok, ok_is}
 use Rattle.byte_reader.proofs.Taken.{IsBytes, Takes, Takes-then, bytes_take, bytes_again}
 use Rattle.byte_reader.proofs.Widths.{le_wide16, le_wide64, number_takes, number_again}

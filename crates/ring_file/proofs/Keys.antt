@@ -1,5 +1,5 @@
 -- Keys that are read are those that were written, and what was written is read again.
-use Rattle.std.proofs.Common.{◌≡◌, ℕ, zero, suc, ◌<◌, ◌≤◌, ◌+◌, ◌^◌, ◌==◌, Bool, true, false, if◌then◌else◌, eqb, List, [], ◌∷◌, ◌++◌, length, Result, Ok, Err, refl, sym, ap, subst, ◌∙◌, append_assoc, arith}
+use Rattle.std.proofs.Common.{◌≡◌, ℕ, zero, suc, ◌<◌, ◌≤◌, ◌^◌, Bool, true, false, if◌then◌else◌, eqb, List, [], ◌∷◌, ◌++◌, length, Ok, Err, refl, sym, ap, subst, ◌∙◌, append_assoc, arith}
 use Rattle.std.specs.List.{AllByRecursion, flat_map, list_any}
 use Rattle.std.specs.Int.{w64, to_le_bytes}
 use Rattle.std.proofs.lemmas.List.{append-nil}
@@ -10,13 +10,13 @@ use Rattle.keystore.specs.declared.phase.OldKey.{OldKey}
 use Rattle.keystore.specs.Lists.{AscendsBy}
 use Rattle.keystore.specs.Rings.{ClientKeys, number_of}
 use Rattle.keystore.specs.Kept.{IsOlder, has_id, ticket_of}
-use Rattle.keystore.proofs.Items.{all_push, ascends_push, all_weaker}
-use Rattle.ring_file.specs.Form.{key_bytes, old_bytes, IsFileKey}
+use Rattle.keystore.proofs.Items.{all_push, ascends_push}
+use Rattle.ring_file.specs.Form.{old_bytes, IsFileKey}
 use Rattle.byte_reader.proofs.Steps.{bind_ok, ok_is}
 use Rattle.byte_reader.proofs.Taken.{IsBytes, Takes, Takes-then, byte_takes, bytes_take, bytes_again}
 use Rattle.byte_reader.proofs.Widths.{le_wide64, number_takes, number_again}
 use Rattle.byte_reader.specs.Fields.{◌>>=◌, byte_at, le_number_at, bytes_at}
-use Rattle.ring_file.specs.Reading.{old_phase_in, old_phase_at, last_of, id_or_zero, can_be_id, id_at, old_key_at, old_keys_at}
+use Rattle.ring_file.specs.Reading.{old_phase_in, old_phase_at, can_be_id, id_at, old_key_at, old_keys_at}
 use Rattle.ring_file.proofs.Judged.{checked_ok, checked_again}
 use Rattle.ring_file.proofs.Rules.{ascends_front, last_below, below_last, id_can, can_id}
 

@@ -10,3 +10,7 @@ pub mod Bodies
 pub mod Sealed
 pub mod Long
 pub mod Fronts
+pub mod Walks
+pub mod Rows
+pub mod Along
+pub mod Faults

@@ -1,5 +1,5 @@
 -- Clients that are read are those that were written, and what was written is read again.
-use Rattle.std.proofs.Common.{◌≡◌, ℕ, zero, suc, ◌<◌, ◌≤◌, ◌+◌, ◌-◌, ◌^◌, ◌==◌, ◌&&◌, Bool, true, false, eqb, leb, List, [], ◌∷◌, ◌++◌, length, Result, Ok, Err, refl, sym, ap, subst, ◌∙◌, append_assoc, arith}
+use Rattle.std.proofs.Common.{◌≡◌, ℕ, zero, suc, ◌<◌, ◌≤◌, ◌+◌, ◌-◌, ◌^◌, ◌==◌, ◌&&◌, true, false, eqb, leb, List, [], ◌∷◌, ◌++◌, length, Ok, refl, sym, ap, subst, ◌∙◌, append_assoc, arith}
 use Rattle.std.specs.List.{AllByRecursion, flat_map, list_any, list_all}
 use Rattle.std.specs.Int.{w16, w64, to_le_bytes}
 use Rattle.std.proofs.lemmas.List.{append-nil}
@@ -9,7 +9,7 @@ use Rattle.acra_base.specs.Client.{IsClientId, is_id_byte}
 use Rattle.keystore.specs.declared.phase.OldKey.{OldKey}
 use Rattle.keystore.specs.Lists.{AscendsBy}
 use Rattle.keystore.specs.Rings.{ClientKeys, name_cmp}
-use Rattle.keystore.specs.Kept.{IsOlder, IsBefore, IsApart, IsPast, IsKeyed, has_id, has_old, ticket_of}
+use Rattle.keystore.specs.Kept.{IsBefore, IsApart, IsPast, IsKeyed, has_id, has_old}
 use Rattle.keystore.proofs.Items.{all_push, ascends_push, all_weaker}
 use Rattle.ring_file.specs.Form.{key_bytes, old_bytes, client_bytes, IsFileKey, IsFileClient}
 use Rattle.byte_reader.proofs.Steps.{bind_ok, ok_is}
@@ -19,7 +19,7 @@ use Rattle.byte_reader.specs.Fields.{◌>>=◌, byte_at, le_number_at, bytes_at}
 use Rattle.ring_file.specs.Reading.{name_length_at, key_count_at, current_at, last_of, comes_after, can_be_name, name_at, can_be_id, id_at, old_keys_at, keys_at, client_at, clients_at}
 use Rattle.ring_file.proofs.Names.{all_bytes, each_byte}
 use Rattle.ring_file.proofs.Judged.{checked_ok, checked_again}
-use Rattle.ring_file.proofs.Rules.{both_true, ascends_front, all_behind, last_below, below_last, id_can, can_id, own_id, old_id, first_old, all_ids, free_apart, apart_free, last_before, before_last, or_second}
+use Rattle.ring_file.proofs.Rules.{both_true, ascends_front, last_below, below_last, id_can, can_id, own_id, old_id, first_old, all_ids, free_apart, apart_free, last_before, before_last, or_second}
 use Rattle.ring_file.proofs.Keys.{id_takes, id_again, IsPastOf, olds_take, olds_again}
 
 -- a client that may stand behind these

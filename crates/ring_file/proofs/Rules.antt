@@ -1,5 +1,5 @@
 -- Ids and names in order, and apart.
-use Rattle.std.proofs.Common.{◌≡◌, ℕ, ◌<◌, ◌≤◌, ◌+◌, ◌&&◌, ◌||◌, ◌⊎◌, not, Bool, true, false, if◌then◌else◌, eqb, ltb, List, [], ◌∷◌, ◌++◌, length, Option, Some, None, is_some, refl, sym, ap, subst, ◌∙◌, append_assoc, arith, inl, inr}
+use Rattle.std.proofs.Common.{◌≡◌, ℕ, ◌<◌, ◌≤◌, ◌&&◌, ◌||◌, ◌⊎◌, not, Bool, true, false, if◌then◌else◌, eqb, ltb, List, [], ◌∷◌, ◌++◌, Option, Some, is_some, refl, sym, subst, ◌∙◌, arith, inl, inr}
 use Rattle.std.specs.List.{AllByRecursion, list_any}
 use Rattle.std.specs.Ordering.{is_lt}
 use Rattle.std.specs.declared.cmp.Ordering.{Ordering}
@@ -10,7 +10,6 @@ use Rattle.keystore.specs.declared.phase.OldKey.{OldKey}
 use Rattle.keystore.specs.Lists.{first, AscendsBy}
 use Rattle.keystore.specs.Rings.{ClientKeys, name_cmp, is_key}
 use Rattle.keystore.specs.Kept.{IsOlder, IsBefore, IsApart, has_old, has_id}
-use Rattle.keystore.proofs.Items.{all_push, ascends_push}
 use Rattle.ring_file.specs.Reading.{last_of, comes_after, id_or_zero, can_be_id}
 
 -- ---- tests
@@ -19,11 +18,11 @@ pub both_true : (a b : Bool) → (a && b) ≡ true → (a ≡ true) × (b ≡ tr
 both_true true b h = (refl, h)
 both_true false b h = absurd (cc h)
 
-not_true : (a : Bool) → not a ≡ true → a ≡ false
+pub not_true : (a : Bool) → not a ≡ true → a ≡ false
 not_true true h = absurd (cc h)
 not_true false h = refl
 
-either_false : (a b : Bool) → (a || b) ≡ false → (a ≡ false) × (b ≡ false)
+pub either_false : (a b : Bool) → (a || b) ≡ false → (a ≡ false) × (b ≡ false)
 either_false true b h = absurd (cc h)
 either_false false b h = (refl, h)
 
@@ -123,7 +122,7 @@ apart_free (d ∷ ds) c id h hc = free_by_test (has_id id d) (list_any (has_id i
 
 -- ---- names
 
-is_less : (o : Ordering) → is_lt o ≡ true → o ≡ Less
+pub is_less : (o : Ordering) → is_lt o ≡ true → o ≡ Less
 is_less Less h = refl
 is_less Equal h = absurd (cc h)
 is_less Greater h = absurd (cc h)

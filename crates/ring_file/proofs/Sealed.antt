@@ -1,5 +1,5 @@
 -- A file that opens is the one that was sealed.
-use Rattle.std.proofs.Common.{◌≡◌, ℕ, ◌≤◌, ◌+◌, ◌&&◌, Bool, true, false, if◌then◌else◌, leb, List, [], ◌∷◌, ◌++◌, length, take, drop, Option, Some, None, Result, Ok, Err, IfOk, refl, sym, ap, subst, ◌∙◌, append_assoc, arith}
+use Rattle.std.proofs.Common.{◌≡◌, ℕ, ◌≤◌, ◌&&◌, Bool, true, false, if◌then◌else◌, leb, List, ◌++◌, length, take, drop, Option, Some, None, Result, Ok, Err, IfOk, refl, sym, ap, ◌∙◌, arith}
 use Rattle.std.specs.Cmp.Lexicographic.{pointwise, same_text}
 use Rattle.std.proofs.Common.{nat_eq}
 use Rattle.std.proofs.lemmas.Cmp.{nat_list_eq_equiv}
@@ -9,7 +9,7 @@ use Rattle.acra_block.specs.Containers.{Sealing, Opening}
 use Rattle.keystore.specs.Rings.{RingState}
 use Rattle.ring_file.specs.declared.file.RingFault.{RingFault}
 use Rattle.ring_file.specs.declared.file.RingFault.TheVariants as fault
-use Rattle.ring_file.specs.Form.{mark, ring_body, ring_file, IsFileRing}
+use Rattle.ring_file.specs.Form.{mark, ring_body, IsFileRing}
 use Rattle.ring_file.specs.Reading.{ring_read}
 use Rattle.ring_file.specs.Files.{file_body, IsReadBody, SpellsRing, ReadsAs}
 use Rattle.ring_file.proofs.Rules.{both_true}

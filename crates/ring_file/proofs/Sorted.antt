@@ -1,5 +1,5 @@
 -- The keys of a client that is read ascend by their ids.
-use Rattle.std.proofs.Common.{◌≡◌, ℕ, zero, suc, ◌-◌, true, List, [], ◌∷◌, ◌++◌, Result, Ok, Err, sym, ap, subst, ◌∙◌}
+use Rattle.std.proofs.Common.{◌≡◌, ℕ, zero, suc, ◌-◌, true, List, [], ◌∷◌, ◌++◌, Ok, subst}
 use Rattle.keystore.specs.declared.phase.OldKey.{OldKey}
 use Rattle.keystore.specs.Lists.{AscendsBy}
 use Rattle.keystore.specs.Rings.{ClientKeys}
@@ -17,7 +17,7 @@ id_ok : (next : ℕ) (before : List ClientKeys) (past : List OldKey) (bytes : Li
 unfolding id_at
 id_ok next before past bytes x e = (checked_ok (le_number_at w64 bytes) (λ n. can_be_id next before past n.0) (length bytes) x e).1
 
-key_ok : (next : ℕ) (before : List ClientKeys) (past : List OldKey) (bytes : List ℕ) (x : OldKey × List ℕ) → old_key_at next before past bytes ≡ Ok x → can_be_id next before past x.0.id ≡ true
+pub key_ok : (next : ℕ) (before : List ClientKeys) (past : List OldKey) (bytes : List ℕ) (x : OldKey × List ℕ) → old_key_at next before past bytes ≡ Ok x → can_be_id next before past x.0.id ≡ true
 unfolding old_key_at
 key_ok next before past bytes x e =
     let a = bind_ok (id_at next before past bytes) (λ id. old_phase_at id.1 >>= λ phase. bytes_at 32 phase.1 >>= λ key. Ok (record { id = id.0; key = key.0; phase = phase.0 }, key.1)) x e in
@@ -26,7 +26,7 @@ key_ok next before past bytes x e =
     let made : OldKey × List ℕ = (record { id = a.0.0; key = d.0.0; phase = b.0.0 }, d.0.1) in
     subst (λ (y : OldKey × List ℕ). can_be_id next before past y.0.id ≡ true) (ok_is made x d.2) (id_ok next before past bytes a.0 a.1)
 
-keys_ok : (next : ℕ) (before : List ClientKeys) (n : ℕ) (past : List OldKey) (bytes : List ℕ) (x : List OldKey × List ℕ) → AscendsBy IsOlder past → old_keys_at next before n past bytes ≡ Ok x → AscendsBy IsOlder x.0
+pub keys_ok : (next : ℕ) (before : List ClientKeys) (n : ℕ) (past : List OldKey) (bytes : List ℕ) (x : List OldKey × List ℕ) → AscendsBy IsOlder past → old_keys_at next before n past bytes ≡ Ok x → AscendsBy IsOlder x.0
 unfolding old_keys_at
 keys_ok next before zero past bytes x up e =
     let made : List OldKey × List ℕ = (past, bytes) in

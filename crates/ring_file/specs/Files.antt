@@ -7,6 +7,7 @@ use Rattle.ring_file.specs.declared.file.RingFault.{RingFault}
 use Rattle.ring_file.specs.declared.file.RingFault.TheVariants as fault
 use Rattle.ring_file.specs.Form.{mark, ring_file, IsFileRing}
 use Rattle.ring_file.specs.Reading.{ring_read}
+use Rattle.ring_file.specs.Fields.{IsWhole, IsFaultPlace}
 
 -- the body of a file that begins with the mark and a nonce, where the master key opens it
 abbrev pub file_body : Opening → List ℕ → List ℕ → Option (List ℕ)
@@ -18,6 +19,13 @@ IsReadBody body (Ok r) = ring_read body ≡ Ok r
 IsReadBody body (Err fault.NotSealed) = ⊥
 IsReadBody body (Err (fault.BadForm place)) = (left : ℕ) × (ring_read body ≡ Err left) × (place ≡ length body - left)
 IsReadBody body (Err fault.NoMemory) = Unit {0}
+
+-- what is read is made of fields from the start to the end, and a fault's place is where they end
+abbrev pub IsPlaced : List ℕ → Result RingState RingFault → Type 0
+IsPlaced body (Ok r) = IsWhole body
+IsPlaced body (Err fault.NotSealed) = ⊥
+IsPlaced body (Err (fault.BadForm place)) = IsFaultPlace body place
+IsPlaced body (Err fault.NoMemory) = Unit {0}
 
 abbrev pub IsReadFile : Option (List ℕ) → Result RingState RingFault → Type 0
 IsReadFile None (Ok r) = ⊥

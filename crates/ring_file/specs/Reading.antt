@@ -1,6 +1,6 @@
 -- Reading a body from left to right. What is read is a value and the bytes behind it. A fault is how many bytes are
 -- left where the first field stands that can't be so, by its own rules and the fields before it.
-use Rattle.std.specs.Prelude.{ℕ, zero, suc, ◌&&◌, ◌+◌, ◌-◌, ◌==◌, nat_le, nat_lt, Bool, true, false, not, if◌then◌else◌, List, [], ◌∷◌, ◌++◌, length, take, drop, Option, Some, None, Result, Ok, Err}
+use Rattle.std.specs.Prelude.{ℕ, zero, suc, ◌&&◌, ◌-◌, ◌==◌, nat_le, nat_lt, Bool, true, not, if◌then◌else◌, List, [], ◌∷◌, ◌++◌, length, Option, Some, None, Result, Ok, Err}
 use Rattle.std.specs.List.{list_all, list_any}
 use Rattle.std.specs.Int.{w16, w64}
 use Rattle.byte_reader.specs.Fields.{◌>>=◌, byte_at, le_number_at, bytes_at, alone}

@@ -1,9 +1,9 @@
-ghost use Rattle.std.specs.Prelude.{◌≡◌, ◌++◌, ℕ, List, length, OnOk, OnErr, IfOk, nat_eq};
+ghost use Rattle.std.specs.Prelude.{◌≡◌, ◌++◌, ℕ, List, Some, length, OnOk, OnErr, IfOk, nat_eq};
 ghost use Rattle.std.specs.Cmp.Lexicographic.{pointwise};
 ghost use Rattle.keystore.specs.Kept.{IsKept};
 ghost use Rattle.keystore.specs.Rings.{RingState};
 ghost use Rattle.ring_file.specs.Form.{mark, ring_body, ring_file, IsFileRing};
-ghost use Rattle.ring_file.specs.Files.{file_body, IsReadBody, IsReadFile, SpellsRing, ReadsAs};
+ghost use Rattle.ring_file.specs.Files.{file_body, IsReadBody, IsReadFile, IsPlaced, SpellsRing, ReadsAs};
 
 use crate::body::ring_of;
 use crate::writing::body_of;
@@ -93,6 +93,7 @@ fn opened_body<A: Aead>(
 
 fn judged(alloc: Global, body: &[u8]) -> Result<Ring, RingFault>
     ensures read { IsReadBody body.now result }
+    ensures place { IsPlaced body.now result }
     ensures spelled { IfOk result (λ ring. IsFileRing ring × (body.now ≡ ring_body ring)) }
 {
     match ring_of(alloc, body) {
@@ -115,6 +116,7 @@ pub fn read_ring<A: Aead>(
     ensures found { IfOk result (λ ring. SpellsRing (A.sealed aead.now) master.now bytes.now ring) }
     ensures only { (r : RingState) → SpellsRing (A.sealed aead.now) master.now bytes.now r → ReadsAs result r }
     ensures exact { IsReadFile (file_body (A.opened aead.now) master.now bytes.now) result }
+    ensures place { (body : List ℕ) → file_body (A.opened aead.now) master.now bytes.now ≡ Some body → IsPlaced body result }
 {
     match opened_body(alloc, aead, bytes, master) {
         Ok(Some(body)) => judged(alloc, body.as_slice()),

@@ -7,10 +7,12 @@ mod clients;
 mod fields;
 mod file;
 mod ids;
+mod laws;
 mod master;
 mod whole;
 mod writing;
 
 pub use file::{RingFault, read_ring, write_ring};
+pub use laws::{fault_places, whole_bodies};
 pub use master::{MasterFault, read_master};
 pub use whole::{FileRefusal, read_file};

@@ -1,9 +1,9 @@
-use Rattle.std.proofs.Common.{◌≡◌, ℕ, List, [], ◌∷◌, ◌++◌, ◌-◌, ◌+◌}
+use Rattle.std.proofs.Common.{[]}
 use Rattle.keystore.specs.Lists.{AscendsBy}
 use Rattle.keystore.specs.Kept.{IsOlder}
 use Rattle.keystore.specs.Rings.{ClientKeys}
 use Rattle.keystore.proofs.Items.{all_push}
-use Rattle.ring_file.specs.Reading.{clients_at, client_at}
+use Rattle.ring_file.specs.Reading.{clients_at}
 use Rattle.ring_file.proofs.Loops.{clients_go, clients_fail, clients_done}
 use Rattle.ring_file.proofs.Sorted.{client_sorted}
 use Rattle.ring_file.proofs.clients.clients_of.Goals as goal

@@ -1,5 +1,5 @@
 use Rattle.std.proofs.Common.{rules}
-use Rattle.ring_file.proofs.Names.{all_bytes, not_each}
+use Rattle.ring_file.proofs.Names.{all_bytes}
 use Rattle.ring_file.proofs.clients.id_text.Goals as goal
 
 pub returns-in-Ok : goal.returns-in-Ok

@@ -1,7 +1,5 @@
-use Rattle.std.proofs.Common.{◌≡◌, ℕ, List, [], ◌∷◌, ◌++◌, ◌-◌, ◌+◌, sym, subst, ap, ◌∙◌}
-use Rattle.keystore.specs.declared.phase.OldKey.{OldKey}
-use Rattle.ring_file.specs.Reading.{old_keys_at, old_key_at}
-use Rattle.byte_reader.specs.Readers.{Fails}
+use Rattle.std.proofs.Common.{[]}
+use Rattle.ring_file.specs.Reading.{old_keys_at}
 use Rattle.ring_file.proofs.Loops.{keys_go, keys_fail, keys_done}
 use Rattle.ring_file.proofs.clients.old_keys_of.Goals as goal
 

@@ -1,4 +1,4 @@
-use Rattle.std.proofs.Common.{◌≡◌, List, ℕ, Some, subst, sym, ap, ◌∙◌}
+use Rattle.std.proofs.Common.{sym, ◌∙◌}
 use Rattle.ring_file.proofs.Sealed.{found_body, only_body, only_none}
 use Rattle.ring_file.proofs.file.read_ring.Goals as goal
 

@@ -1,4 +1,4 @@
-use Rattle.std.proofs.Common.{arith, rules, ◌≤◌, ◌+◌, ◌-◌, length}
+use Rattle.std.proofs.Common.{arith, rules}
 use Rattle.ring_file.proofs.Fronts.{took_piece}
 use Rattle.ring_file.proofs.whole.read_file.Goals as goal
 

@@ -4,8 +4,8 @@ ghost use Rattle.ring_file.specs.Form.{ring_body, IsFileRing};
 ghost use Rattle.ring_file.specs.Fields.{IsWhole, IsFaultPlace};
 ghost use Rattle.ring_file.specs.Reading.{ring_read};
 
-/// A body that can't be read has one place at which its fields end: all before it are whole fields that may stand so, and no field that may
-/// follow begins what is left.
+/// A body that can't be read has one place at which its fields end: all before it are whole fields that may
+/// stand so, and no field that may follow begins what is left.
 pub fn fault_places()
     ensures place { (body : List ℕ) (left : ℕ) → ring_read body ≡ Err left → IsFaultPlace body (length body - left) }
     ensures one { (body : List ℕ) (a b : ℕ) → IsFaultPlace body a → IsFaultPlace body b → a ≡ b }

@@ -16,12 +16,12 @@ consistent_byte consistent = if consistent then 1 else 0
 -- the token
 abbrev pub record_head : Want → ℕ → ℕ → List ℕ
 record_head want serial token =
-    kind_byte want.kind ∷ consistent_byte want.consistent ∷ length want.owner ∷ want.owner ++ to_le_bytes w64 serial ++ to_be_bytes w64 token
+    kind_byte want.kind ∷ consistent_byte want.consistent ∷ length want.owner ∷ want.owner ++ (to_le_bytes w64 serial ++ to_be_bytes w64 token)
 
 -- the plaintext is sealed under the store key, with all before the nonce as the extra
 abbrev pub token_record : Sealing → List ℕ → List ℕ → Want → ℕ → ℕ → List ℕ
 token_record sealed store_key nonce want serial token =
-    record_head want serial token ++ nonce ++ sealed store_key nonce (record_head want serial token) want.plain
+    record_head want serial token ++ (nonce ++ sealed store_key nonce (record_head want serial token) want.plain)
 
 -- the bytes are the record of this token, with some nonce
 pub record IsRecord (sealed : Sealing) (store_key bytes : List ℕ) (want : Want) (serial token : ℕ) : Type 0 where

@@ -1,5 +1,6 @@
 //! Values that have tokens.
 ghost use Rattle.std.specs.Prelude.{◌≡◌, ◌↔◌, IsTrue, true};
+ghost use Rattle.std.specs.Fmt.{signed_decimal};
 ghost use Rattle.plain_values.specs.Values.{IsCanonical, is_integer};
 ghost use Rattle.token_rule.specs.Rule.{IsTokenValue};
 
@@ -10,16 +11,21 @@ use plain_values::{is_plain_text, read_number};
 /// The most bytes of a plaintext that has a token.
 const MOST_VALUE: usize = 256;
 
+/// Whether a text is the decimal spelling of this number.
+fn is_decimal(number: i64, text: &[u8]) -> bool
+    ensures { IsTrue result ↔ (text.now ≡ signed_decimal number) }
+{
+    let mut digits = Buffer::new();
+    digits.format(number).as_bytes() == text
+}
+
 /// Whether a text is the decimal spelling of a number of an integer kind.
 fn is_number(kind: ValueKind, plain: &[u8]) -> bool
     requires { is_integer kind ≡ true }
     ensures { IsTrue result ↔ IsCanonical kind plain.now }
 {
     match read_number(kind, plain) {
-        Ok(number) => {
-            let mut digits = Buffer::new();
-            digits.format(number).as_bytes() == plain
-        }
+        Ok(number) => is_decimal(number, plain),
         Err(_) => false,
     }
 }

@@ -61,7 +61,14 @@ pub fn push_record<A: Aead>(
     let head = head_of(alloc, want, serial, token)?;
     let mut text = Vec::from_slice(alloc, head.as_slice())?;
     text.extend_from_slice(nonce)?;
-    aead.seal(alloc, store_key, nonce, head.as_slice(), want.plain(), &mut text)?;
+    aead.seal(
+        alloc,
+        store_key,
+        nonce,
+        head.as_slice(),
+        want.plain(),
+        &mut text,
+    )?;
     out.extend_from_slice(&text)?;
     Ok(())
 }

@@ -1,5 +1,5 @@
-use Rattle.std.proofs.Common.{◌≡◌, ◌<◌, ℕ, List, Err, Result, length, ◌++◌, ◌∷◌, [], ◌-◌, sym, subst, arith, rules}
-use Rattle.token_records.specs.Pieces.{piece_at, StopsAt, ArePieces}
+use Rattle.std.proofs.Common.{◌≡◌, ◌<◌, ℕ, List, Err, length, ◌++◌, ◌∷◌, [], ◌-◌, sym, subst, rules}
+use Rattle.token_records.specs.Pieces.{piece_at}
 use Rattle.token_records.proofs.Listed.{SoFar, one_more, ends_whole, whole_once, not_both, stops, stops_once}
 use Rattle.token_records.proofs.pieces.read_pieces.Goals as goal
 

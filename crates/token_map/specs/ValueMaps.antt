@@ -1,0 +1,10 @@
+-- What a map of values finds.
+use Rattle.std.specs.Prelude.{ℕ, List, Option}
+use Rattle.std.specs.Ordering.{nat_cmp}
+use Rattle.std.specs.Cmp.Lexicographic.{slice_cmp}
+use Rattle.std.specs.BTreeMap.{get_by}
+use Rattle.token_map.specs.declared.value_map.ValueMap.{ValueMap}
+
+-- the token at the key of these bytes
+abbrev pub token_at : ValueMap → List ℕ → Option ℕ
+token_at m key = get_by (λ k. slice_cmp nat_cmp key k.items) m.tokens

@@ -1,6 +1,6 @@
 -- What a map of values finds after a change at one key; and that a key stands for one value.
-use Rattle.std.proofs.Common.{◌≡◌, ℕ, List, [], ◌∷◌, ◌++◌, length, Bool, true, false, ◌&&◌, ◌==◌, nat_eq, Option, Some, cond, sym, ap, refl, subst, ◌∙◌}
-use Rattle.std.specs.Ordering.{is_eq, nat_cmp, eq_by_cmp}
+use Rattle.std.proofs.Common.{◌≡◌, ℕ, List, Bool, true, false, ◌&&◌, nat_eq, Option, cond, sym, ap, subst, ◌∙◌}
+use Rattle.std.specs.Ordering.{is_eq, nat_cmp}
 use Rattle.std.specs.Cmp.{eq_by_cmp_equiv}
 use Rattle.std.specs.Cmp.Lexicographic.{pointwise, slice_cmp, bytes_decides, nat_list_cmp_total, nat_list_eq_equiv}
 use Rattle.std.specs.BTreeMap.{UpdatesBy}
@@ -8,10 +8,9 @@ use Rattle.std.specs.Map.{lookup, IsKeyTest, AreApart, KeepsOthers}
 use Rattle.std.proofs.lemmas.Bool.{cases_Bool, cond-true, cond-false}
 use Rattle.std.proofs.lemmas.Map.Text.{is_eq-slice_cmp}
 use mathlib.Core.Logic.{⊎_elim}
-use Rattle.token_rule.specs.Rule.{Want, kind_byte}
-use Rattle.token_rule.specs.Entries.{Entry, is_standing, standing_token}
+use Rattle.token_rule.specs.Rule.{Want}
 use Rattle.token_map.specs.declared.value_map.ValueMap.{ValueMap}
-use Rattle.token_map.specs.Index.{value_key, has_key, keyed_token}
+use Rattle.token_map.specs.Index.{value_key, has_key}
 use Rattle.token_map.specs.ValueMaps.{token_at, key_cmp}
 
 apart : (bs cs ks : List ℕ) → pointwise nat_eq bs cs ≡ false → pointwise nat_eq bs ks ≡ true → pointwise nat_eq cs ks ≡ false

@@ -4,3 +4,4 @@ pub mod Places
 pub mod Values
 pub mod Steps
 pub mod Numbers
+pub mod Added

@@ -1,5 +1,5 @@
 -- The search for a number that no token has ends.
-use Rattle.std.proofs.Common.{nat_le, ◌≡◌, ℕ, ◌<◌, ◌≤◌, ◌+◌, ◌-◌, ◌%◌, ◌==◌, ◌&&◌, ◌||◌, List, [], ◌∷◌, length, map, Bool, true, false, cond, Option, None, Some, refl, sym, ap, subst, ◌∙◌, arith}
+use Rattle.std.proofs.Common.{nat_le, ◌≡◌, ℕ, ◌<◌, ◌≤◌, ◌+◌, ◌-◌, ◌%◌, ◌||◌, List, [], ◌∷◌, length, map, Bool, true, false, cond, Option, Some, refl, sym, ap, subst, ◌∙◌, arith}
 use Rattle.std.specs.List.{find, list_any}
 use Rattle.std.specs.Option.{is_some}
 use Rattle.std.proofs.Math.Dec.{eqb}
@@ -36,15 +36,15 @@ high n a h k =
 left_is : (n start steps number : ℕ) → start < n → steps < n → number ≡ (start + steps) % n → numbers_left n start number ≡ n - steps
 left_is n start steps number h k e = ⊎_elim
     (λ (l : start + steps < n).
-        let at : number ≡ start + steps = e ∙ low n (start + steps) l in
-        let up : start ≤ number = omega arith in
-        let size : start + n - number ≡ n - steps = omega arith in
-        ap (λ b. cond b (start + n - number) (start - number)) (le-leb start number up) ∙ size)
+    let at : number ≡ start + steps = e ∙ low n (start + steps) l in
+    let up : start ≤ number = omega arith in
+    let size : start + n - number ≡ n - steps = omega arith in
+    ap (λ b. cond b (start + n - number) (start - number)) (le-leb start number up) ∙ size)
     (λ (l : n ≤ start + steps).
-        let at : number ≡ start + steps - n = e ∙ high n (start + steps) l (omega arith) in
-        let down : number < start = omega arith in
-        let size : start - number ≡ n - steps = omega arith in
-        ap (λ b. cond b (start + n - number) (start - number)) (lt-leb start number down) ∙ size)
+    let at : number ≡ start + steps - n = e ∙ high n (start + steps) l (omega arith) in
+    let down : number < start = omega arith in
+    let size : start - number ≡ n - steps = omega arith in
+    ap (λ b. cond b (start + n - number) (start - number)) (lt-leb start number down) ∙ size)
     (cases_lt (start + steps) n)
 
 -- each number is some steps behind the start
@@ -56,11 +56,11 @@ pub record IsBehind (n start number : ℕ) : Type 0 where
 behind : (n start number : ℕ) → start < n → number < n → IsBehind n start number
 behind n start number h k = ⊎_elim
     (λ (l : number < start).
-        let e : start + (number + n - start) ≡ number + n = omega arith in
-        record { steps = number + n - start; round = omega arith; place = ap (λ a. a % n) e ∙ add-mod_right number n ∙ low n number k })
+    let e : start + (number + n - start) ≡ number + n = omega arith in
+    record { steps = number + n - start; round = omega arith; place = ap (λ a. a % n) e ∙ add-mod_right number n ∙ low n number k })
     (λ (l : start ≤ number).
-        let e : start + (number - start) ≡ number = omega arith in
-        record { steps = number - start; round = omega arith; place = ap (λ a. a % n) e ∙ low n number k })
+    let e : start + (number - start) ≡ number = omega arith in
+    record { steps = number - start; round = omega arith; place = ap (λ a. a % n) e ∙ low n number k })
     (cases_lt number start)
 
 -- ---- not all numbers are taken
@@ -79,8 +79,8 @@ all_taken : (es : List Entry) (kind : ValueKind) (start n : ℕ) → start < n
     → ((i : ℕ) → i < n → is_taken es kind ((start + i) % n) ≡ true) → n ≤ length es
 all_taken es kind start n h taken =
     let each : (q : ℕ) → q < n → list_any (eqb q) (map (λ (e : Entry). e.token) es) ≡ true =
-        (λ q k. let b : IsBehind n start q = behind n start q h k in
-            has_number kind q es (sym (ap (is_taken es kind) b.place) ∙ taken b.steps b.round)) in
+    (λ q k. let b : IsBehind n start q = behind n start q h k in
+    has_number kind q es (sym (ap (is_taken es kind) b.place) ∙ taken b.steps b.round)) in
     let most : n ≤ length (map (λ (e : Entry). e.token) es) = le-length_from_below (map (λ (e : Entry). e.token) es) n each in
     rw (length-map) at most
 
@@ -99,8 +99,8 @@ taken_to : (es : List Entry) (kind : ValueKind) (start number : ℕ) (r : IsReac
 taken_to es kind start number r t i h = ⊎_elim
     (λ (k : i < r.steps). r.taken i k)
     (λ (k : r.steps ≤ i).
-        let e : r.steps ≡ i = omega arith in
-        sym (ap (λ j. is_taken es kind ((start + j) % number_count kind)) e) ∙ sym (ap (is_taken es kind) r.place) ∙ t)
+    let e : r.steps ≡ i = omega arith in
+    sym (ap (λ j. is_taken es kind ((start + j) % number_count kind)) e) ∙ sym (ap (is_taken es kind) r.place) ∙ t)
     (cases_lt i r.steps)
 
 not_last : (es : List Entry) (kind : ValueKind) (start number : ℕ) → start < number_count kind → length es < number_count kind
@@ -108,8 +108,8 @@ not_last : (es : List Entry) (kind : ValueKind) (start number : ℕ) → start <
 not_last es kind start number h room r t = ⊎_elim
     (λ (k : r.steps + 1 < number_count kind). k)
     (λ (k : number_count kind ≤ r.steps + 1).
-        let full : number_count kind ≤ length es = all_taken es kind start (number_count kind) h (λ i l. taken_to es kind start number r t i (omega arith)) in
-        absurd (omega arith))
+    let full : number_count kind ≤ length es = all_taken es kind start (number_count kind) h (λ i l. taken_to es kind start number r t i (omega arith)) in
+    absurd (omega arith))
     (cases_lt (r.steps + 1) (number_count kind))
 
 pub goes_on : (es : List Entry) (kind : ValueKind) (start number next : ℕ) → start < number_count kind → length es < number_count kind

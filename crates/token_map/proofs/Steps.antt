@@ -1,13 +1,13 @@
 -- What the maps find after each change of the list.
-use Rattle.std.proofs.Common.{◌≡◌, ℕ, List, [], ◌∷◌, ◌++◌, length, Bool, true, false, ◌&&◌, ◌==◌, nat_eq, cond, Option, None, Some, option_map, refl, sym, ap, subst, ◌∙◌, append_assoc}
+use Rattle.std.proofs.Common.{◌≡◌, ℕ, List, [], ◌∷◌, ◌++◌, length, Bool, true, false, ◌==◌, nat_eq, cond, Option, None, Some, option_map, refl, sym, ap, subst, ◌∙◌, append_assoc}
 use Rattle.std.specs.List.{find, list_any}
 use Rattle.std.specs.Option.{option_or}
 use Rattle.std.specs.Cmp.Lexicographic.{pointwise, bytes_decides}
 use Rattle.std.proofs.lemmas.List.Folds.{find-append}
 use Rattle.std.proofs.lemmas.Bool.{and_parts, eqb-true}
 use mathlib.Core.Logic.{⊎_elim, inl, inr, ◌⊎◌}
-use Rattle.token_rule.specs.Rule.{Want, kind_byte}
-use Rattle.token_rule.specs.Entries.{Entry, is_taken, is_standing, standing_token}
+use Rattle.token_rule.specs.Rule.{kind_byte}
+use Rattle.token_rule.specs.Entries.{Entry}
 use Rattle.token_map.specs.declared.place_map.PlaceMap.{PlaceMap}
 use Rattle.token_map.specs.declared.value_map.ValueMap.{ValueMap}
 use Rattle.token_map.specs.Index.{value_key, has_key, keyed_token, is_slot, place_of}

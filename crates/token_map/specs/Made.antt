@@ -1,5 +1,5 @@
 -- Which lists of tokens are made one token after the other.
-use Rattle.std.specs.Prelude.{ℕ, ◌≡◌, ◌<◌, List, [], ◌∷◌, ◌++◌, true, false, None}
+use Rattle.std.specs.Prelude.{◌≡◌, ◌<◌, List, [], ◌∷◌, ◌++◌, true, false, None}
 use Rattle.token_rule.specs.Rule.{number_count}
 use Rattle.token_rule.specs.Entries.{Entry, is_taken, standing_token}
 

@@ -4,10 +4,8 @@ ghost use Rattle.token_map.specs.Index.{value_key};
 use std::marker::Model;
 use token_rule::{TokenWant, kind_byte};
 
-/// The most bytes of a key: a kind, the length of an owner's name, the name, and a plaintext.
-const MOST_KEY: usize = 322;
-
-/// The bytes by which a value is looked up, held in place.
+/// The bytes by which a value is looked up, held in place: its kind, the length of its owner's name, the name of at
+/// most 64 bytes, and a plaintext of at most 256.
 #[derive(Drop)]
 pub struct ValueKey {
     bytes: [u8; 322],
@@ -29,7 +27,7 @@ impl ValueKey {
         ensures { result ≡ [] }
     {
         ValueKey {
-            bytes: [0; MOST_KEY],
+            bytes: [0; 322],
             len: 0,
         }
     }

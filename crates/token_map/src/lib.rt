@@ -3,10 +3,12 @@
 
 mod entry;
 mod key;
+mod laws;
 mod number;
 mod place_map;
 mod token_map;
 mod value_map;
 
 pub use entry::Entry;
+pub use laws::{added_is_found, added_leaves, one_first_free};
 pub use token_map::TokenMap;

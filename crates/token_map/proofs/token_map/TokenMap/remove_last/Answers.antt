@@ -15,7 +15,7 @@ invariant_of-self c =
     let kept : IsKept (c.pop.new.self.items ++ c.in-Some.last ∷ []) c.self.inside.by_token c.self.inside.by_value = subst (λ l. IsKept l c.self.inside.by_token c.self.inside.by_value) items c.self.invariant in
     let kind : c.kind.result ≡ c.in-Some.last.want.kind = c.kind.ensures ∙ ap (λ (w : Want). w.kind) c.want.ensures in
     kept_less c.pop.new.self.items c.in-Some.last c.self.inside.by_token c.take_out.new.self c.self.inside.by_value c.take_out-in-Some.new.self kept
-        (λ k t. c.take_out.ensures k t
-            ∙ ap (λ (v : ValueKind). cond (is_at v c.token.result k t) None (place_at c.self.inside.by_token k t)) kind
-            ∙ ap (λ n. cond (is_at c.in-Some.last.want.kind n k t) None (place_at c.self.inside.by_token k t)) c.token.ensures)
-        (λ key. c.take_out-in-Some.ensures key ∙ ap (λ (w : Want). cond (has_key key w) None (token_at c.self.inside.by_value key)) c.want-in-Some.ensures)
+    (λ k t. c.take_out.ensures k t
+    ∙ ap (λ (v : ValueKind). cond (is_at v c.token.result k t) None (place_at c.self.inside.by_token k t)) kind
+    ∙ ap (λ n. cond (is_at c.in-Some.last.want.kind n k t) None (place_at c.self.inside.by_token k t)) c.token.ensures)
+    (λ key. c.take_out-in-Some.ensures key ∙ ap (λ (w : Want). cond (has_key key w) None (token_at c.self.inside.by_value key)) c.want-in-Some.ensures)

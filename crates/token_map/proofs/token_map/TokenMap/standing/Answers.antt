@@ -1,5 +1,5 @@
 use Rattle.token_map.proofs.token_map.TokenMap.standing.Goals as goal
-use Rattle.std.proofs.Common.{◌≡◌, ◌∙◌, sym, ap}
+use Rattle.std.proofs.Common.{◌∙◌, ap}
 use Rattle.token_rule.specs.Entries.{standing_token}
 use Rattle.token_map.specs.Index.{value_key}
 use Rattle.token_map.proofs.Values.{keyed_standing}

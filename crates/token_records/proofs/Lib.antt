@@ -1,0 +1,4 @@
+pub mod Fronts
+pub mod Recorded
+pub mod Listed
+pub mod Values

@@ -1,0 +1,5 @@
+pub mod Slots
+pub mod Keys
+pub mod Places
+pub mod Values
+pub mod Steps

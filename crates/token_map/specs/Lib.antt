@@ -1,0 +1,5 @@
+pub mod Index
+pub mod PlaceMaps
+pub mod ValueMaps
+pub mod Made
+pub mod Kept

@@ -1,5 +1,5 @@
 -- What stands before a seal is read as it was written, and what is read is what was written.
-use Rattle.std.proofs.Common.{◌≡◌, ℕ, zero, suc, ◌<◌, ◌^◌, Bool, true, false, cond, eqb, ltb, nat_lt, ◌==◌, if◌then◌else◌, List, [], ◌∷◌, ◌++◌, length, Option, Some, None, Result, Ok, Err, refl, sym, ap, subst, ◌∙◌, append_assoc, arith}
+use Rattle.std.proofs.Common.{◌≡◌, ℕ, ◌<◌, ◌^◌, Bool, true, false, cond, eqb, ltb, nat_lt, if◌then◌else◌, List, [], ◌∷◌, ◌++◌, length, Option, Some, None, Result, Ok, Err, refl, sym, ap, subst, ◌∙◌, append_assoc, arith}
 use Rattle.std.specs.Int.{w64, to_le_bytes, to_be_bytes}
 use Rattle.std.proofs.lemmas.Bool.{ltb-true, lt-ltb, eqb-true}
 use Rattle.acra_base.specs.declared.kind.ValueKind.{ValueKind}
@@ -139,7 +139,7 @@ front_takes bytes x fits e =
     let mark = known_takes mark_of consistent_byte mark_read a.0.1 b.0 kind.rest_fits b.1 in
     let rest = behind_takes a.0.0 b.0.0 b.0.1 x mark.rest_fits b.2 in
     let all = Takes-then bytes (kind_byte a.0.0 ∷ []) a.0.1 (consistent_byte b.0.0 ∷ (behind x.0.owner x.0.serial x.0.token ++ x.0.nonce)) x.1 kind
-        (Takes-then a.0.1 (consistent_byte b.0.0 ∷ []) b.0.1 (behind x.0.owner x.0.serial x.0.token ++ x.0.nonce) x.1 mark rest.takes) in
+    (Takes-then a.0.1 (consistent_byte b.0.0 ∷ []) b.0.1 (behind x.0.owner x.0.serial x.0.token ++ x.0.nonce) x.1 mark rest.takes) in
     record {
       made = all.parts ∙ headed (kind_byte a.0.0) (kind_byte x.0.kind) (consistent_byte b.0.0) (consistent_byte x.0.consistent) (behind x.0.owner x.0.serial x.0.token) x.0.nonce x.1 (ap kind_byte rest.same_kind) (ap consistent_byte rest.same_mark);
       full = rest.full;
@@ -157,5 +157,11 @@ front_again want serial token nonce seal fits within full =
     let group : (want.owner ++ (to_le_bytes w64 serial ++ to_be_bytes w64 token)) ++ (nonce ++ seal) ≡ want.owner ++ (to_le_bytes w64 serial ++ (to_be_bytes w64 token ++ (nonce ++ seal))) =
     append_assoc want.owner (to_le_bytes w64 serial ++ to_be_bytes w64 token) (nonce ++ seal) ∙ ap (λ (r : List ℕ). want.owner ++ r) (append_assoc (to_le_bytes w64 serial) (to_be_bytes w64 token) (nonce ++ seal)) in
     ap (λ (r : List ℕ). front_at (kind_byte want.kind ∷ (consistent_byte want.consistent ∷ (length want.owner ∷ r)))) group
-    ∙ rw (kind_again want.kind, mark_again want.consistent, bytes_again (length want.owner) want.owner (to_le_bytes w64 serial ++ (to_be_bytes w64 token ++ (nonce ++ seal))) refl,
-        number_again w64 (2 ^ 64) le_wide64 serial (to_be_bytes w64 token ++ (nonce ++ seal)) fits, token_again want.kind token (nonce ++ seal) within, bytes_again 12 nonce seal full) refl
+    ∙ rw (
+      kind_again want.kind,
+      mark_again want.consistent,
+      bytes_again (length want.owner) want.owner (to_le_bytes w64 serial ++ (to_be_bytes w64 token ++ (nonce ++ seal))) refl,
+      number_again w64 (2 ^ 64) le_wide64 serial (to_be_bytes w64 token ++ (nonce ++ seal)) fits,
+      token_again want.kind token (nonce ++ seal) within,
+      bytes_again 12 nonce seal full,
+    ) refl

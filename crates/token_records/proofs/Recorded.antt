@@ -1,14 +1,14 @@
 -- Records by their fronts and seals.
-use Rattle.std.proofs.Common.{◌≡◌, ℕ, ◌+◌, ◌≤◌, ◌<◌, ◌^◌, List, [], ◌∷◌, ◌++◌, length, take, Option, Some, None, Result, Ok, Err, IfOk, IfSome, refl, sym, ap, subst, ◌∙◌, arith}
+use Rattle.std.proofs.Common.{◌≡◌, ℕ, ◌+◌, ◌≤◌, List, [], ◌++◌, length, take, Option, Some, None, Result, Ok, Err, IfOk, IfSome, sym, ap, subst, ◌∙◌, arith}
 use Rattle.std.specs.Int.{w64, to_le_bytes, to_be_bytes}
 use Rattle.std.proofs.lemmas.List.{take_at, length-append}
 use Rattle.acra_base.specs.declared.no_memory.NoMemory.{NoMemory}
 use Rattle.byte_reader.proofs.Steps.{ok_is}
-use Rattle.token_rule.specs.Rule.{Want, IsWant, number_count}
+use Rattle.token_rule.specs.Rule.{Want}
 use Rattle.token_records.specs.declared.record.Record.{Record}
-use Rattle.token_records.specs.Records.{Sealing, record_head, token_record, IsRecord, ReadsAs}
+use Rattle.token_records.specs.Records.{Sealing, record_head, IsRecord, ReadsAs}
 use Rattle.token_records.specs.Reading.{Front, want_of, Seals, front_at}
-use Rattle.token_records.proofs.Fronts.{IsFront, front_takes, front_again}
+use Rattle.token_records.proofs.Fronts.{IsFront, front_again}
 
 head_length : (want : Want) (serial token : ℕ) → length (record_head want serial token) ≡ 19 + length want.owner
 head_length want serial token =

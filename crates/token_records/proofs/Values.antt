@@ -1,11 +1,11 @@
 -- A number's text is canonical exactly where it is the number's decimal spelling.
-use Rattle.std.proofs.Common.{◌≡◌, ℕ, ℤ, List, Bool, true, false, Result, Ok, Err, sym, ap, ◌∙◌, true≢false, IsTrue}
+use Rattle.std.proofs.Common.{◌≡◌, ℕ, ℤ, List, true, Err, sym, ◌∙◌, true≢false}
 use Rattle.std.specs.Fmt.{signed_decimal}
 use Rattle.acra_base.specs.declared.kind.ValueKind.{ValueKind}
 use Rattle.acra_base.specs.declared.kind.ValueKind.TheVariants as kinds
 use Rattle.plain_values.specs.declared.refusal.ValueRefusal.{ValueRefusal}
 use Rattle.plain_values.specs.declared.refusal.ValueRefusal.TheVariants as refusal
-use Rattle.plain_values.specs.Values.{Reading, is_in_range, plain, bad, out_of_range, too_long, IsCanonical, is_integer, integer_reading}
+use Rattle.plain_values.specs.Values.{Reading, is_in_range, plain, bad, out_of_range, IsCanonical, is_integer, integer_reading}
 use Rattle.plain_values.specs.Answers.{IsNumber}
 use Rattle.plain_values.proofs.Canonical.{text_is_canonical}
 use Rattle.plain_values.proofs.Spelled.{text_reads_back, is_number}

@@ -56,11 +56,19 @@ pub fn push_record<A: Aead>(
 ) -> Result<(), NoMemory>
     ensures ok { OnOk result (out.new.items ≡ out.old.items ++ token_record (A.sealed aead.now) store_key.now nonce.now want.now serial token) }
     ensures err { OnErr result (out.new.items ≡ out.old.items) }
+    ensures is { OnOk result (token < number_count want.now.kind → IsRecord (A.sealed aead.now) store_key.now (token_record (A.sealed aead.now) store_key.now nonce.now want.now serial token) want.now serial token) }
 {
     let head = head_of(alloc, want, serial, token)?;
     let mut text = Vec::from_slice(alloc, head.as_slice())?;
     text.extend_from_slice(nonce)?;
-    aead.seal(alloc, store_key, nonce, head.as_slice(), want.plain(), &mut text)?;
+    aead.seal(
+        alloc,
+        store_key,
+        nonce,
+        head.as_slice(),
+        want.plain(),
+        &mut text,
+    )?;
     out.extend_from_slice(&text)?;
     Ok(())
 }

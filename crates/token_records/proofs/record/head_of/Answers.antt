@@ -1,4 +1,4 @@
-use Rattle.std.proofs.Common.{◌≡◌, ◌∷◌, [], ◌++◌, List, ℕ, length, sym, ap, ◌∙◌, append_assoc, w64, rules}
+use Rattle.std.proofs.Common.{◌≡◌, ◌∷◌, [], ◌++◌, List, ℕ, length, ◌∙◌, append_assoc, w64, rules}
 use Rattle.std.specs.Int.{to_le_bytes, to_be_bytes}
 use Rattle.token_rule.specs.Rule.{kind_byte}
 use Rattle.token_records.specs.Records.{consistent_byte}

@@ -1,7 +1,7 @@
-use Rattle.std.proofs.Common.{◌≡◌, ◌≤◌, ◌+◌, ℕ, List, length, sym, arith, rules}
+use Rattle.std.proofs.Common.{◌+◌, length, sym, arith, rules}
 use Rattle.std.proofs.lemmas.List.{length-take-le}
-use Rattle.token_records.specs.Reading.{Front, shown}
-use Rattle.token_records.proofs.Fronts.{IsFront, front_takes}
+use Rattle.token_records.specs.Reading.{shown}
+use Rattle.token_records.proofs.Fronts.{front_takes}
 use Rattle.token_records.proofs.Recorded.{front_long, no_record, record_reads, found_record}
 use Rattle.token_records.proofs.record.read_record.Goals as goal
 

@@ -3,3 +3,4 @@ pub mod Keys
 pub mod Places
 pub mod Values
 pub mod Steps
+pub mod Numbers

@@ -119,7 +119,8 @@ impl Tokens {
 
     /// What a token stands for, `None` exactly where the store hasn't it. It takes no memory.
     pub fn value_of(&self, kind: ValueKind, token: u64) -> Option<TokenValue<'_>>
-        ensures { option_map (λ v. (v.owner.now, v.plain.now)) result ≡ option_map (λ e. (e.want.owner, e.want.plain)) (entry_of self.now.entries kind token) }
+        ensures owner { option_map (λ v. v.owner.now) result ≡ option_map (λ e. e.want.owner) (entry_of self.now.entries kind token) }
+        ensures plain { option_map (λ v. v.plain.now) result ≡ option_map (λ e. e.want.plain) (entry_of self.now.entries kind token) }
     {
         match self.map.entry(kind, token) {
             Some(entry) => Some(TokenValue {

@@ -1,5 +1,11 @@
-//! Tests of tokens: where the search for a token starts, as another program has it.
+//! Tests of tokens: the rule, records and the store, as another program has them.
 #![tactic(auto)]
 
 #[cfg(test)]
+mod records;
+#[cfg(test)]
 mod starts;
+#[cfg(test)]
+mod store;
+#[cfg(test)]
+mod wants;

@@ -1,60 +1,45 @@
-//! Starts that Python's hmac gives for the same token key.
+//! Starts that Python's hmac gives under the token key of the bytes 0 to 31.
 
-ghost use Rattle.token_rule.specs.Rule.{IsTokenValue};
-
-use acra_base::{Bytes, ClientId, ValueKind};
-use std::alloc::Global;
-use std::process::Abort;
+use crate::wants::{key_from, want};
+use acra_base::ValueKind;
 use std::test::Fail;
-use token_rule::{TokenWant, token_start};
+use token_rule::token_start;
 
-/// The bytes 0 to 31.
-fn token_key() -> [u8; 32] {
-    let mut key = [0; 32];
-    for (place, byte) in key.iter_mut().zip(0..32u8) {
-        *place = byte;
-    }
-    key
-}
-
-/// A value's token starts at this number, where so many were made before.
-fn starts_at(
-    rt: &impl Abort,
-    alloc: Global,
-    kind: ValueKind,
-    owner: &[u8],
-    plain: &[u8],
-    serial: u64,
-    number: u64,
-) -> Result<(), Fail>
-    requires { IsTokenValue kind plain.now }
-{
-    let owner = ClientId::read(owner)?;
-    let want = TokenWant::new(kind, owner, Bytes::copied(alloc, plain)?, serial == 0);
-    assert_eq!(rt; token_start(&token_key(), &want, serial), number);
-    Ok(())
-}
+/// Kind, owner, plaintext, whether the column is consistent, how many tokens were made before, and the start.
+const STARTS: [(ValueKind, &[u8], &[u8], bool, u64, u64); 4] = [
+    (
+        ValueKind::Str,
+        b"app",
+        b"555-0100",
+        true,
+        0,
+        0xf418_7a96_26bd_bf7c,
+    ),
+    (ValueKind::Int32, b"app", b"-7", false, 2, 0x612b_7d38),
+    (
+        ValueKind::Int64,
+        b"app",
+        b"-7",
+        false,
+        2,
+        0x004a_674e_f9ec_1042,
+    ),
+    (
+        ValueKind::Bytes,
+        b"ops",
+        b"\x00\xff",
+        false,
+        7,
+        0xacac_7c5d_564a_428a,
+    ),
+];
 
 #[test]
 fn starts_by_another_program(rt: HostRuntime) -> Result<(), Fail> {
-    let alloc = rt.alloc();
-    let (text, bytes) = (ValueKind::Str, ValueKind::Bytes);
-    starts_at(
-        &rt,
-        alloc,
-        text,
-        b"app",
-        b"555-0100",
-        0,
-        0xf418_7a96_26bd_bf7c,
-    )?;
-    starts_at(
-        &rt,
-        alloc,
-        bytes,
-        b"ops",
-        b"\x00\xff",
-        7,
-        0xacac_7c5d_564a_428a,
-    )
+    let key = key_from(0);
+    for (kind, owner, plain, consistent, serial, start) in STARTS {
+        let want = want(rt.alloc(), kind, owner, plain, consistent)?;
+        assert_eq!(rt; token_start(&key, &want, serial), start);
+    }
+    Ok(())
 }

@@ -1,3 +1,5 @@
 mod Firsts
+mod Knowing
 mod Loads
 mod Nexts
+mod Staying

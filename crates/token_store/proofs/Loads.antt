@@ -1,7 +1,7 @@
 -- Records that load, one behind the others.
-use Rattle.std.proofs.Common.{◌≡◌, ℕ, zero, suc, ◌<◌, Bool, true, false, List, [], ◌∷◌, ◌++◌, length, take, drop, get_or, refl, sym, ap, subst, arith}
+use Rattle.std.proofs.Common.{◌≡◌, ℕ, zero, suc, ◌<◌, Bool, true, false, List, [], ◌∷◌, ◌++◌, length, take, drop, get_or, refl, ap, subst, arith}
 use Rattle.token_store.specs.Stores.{Store}
-use Rattle.token_store.specs.Loading.{IsNextRecord, Loads, Takes, IsBadAt}
+use Rattle.token_store.specs.Loading.{IsNextRecord, Loads, Takes}
 
 pub loads_more : (sealed : List ℕ → List ℕ → List ℕ → List ℕ → List ℕ) (s t u : Store) (pieces : List (List ℕ)) (piece : List ℕ) → Loads sealed s pieces t → IsNextRecord sealed t u piece → Loads sealed s (pieces ++ piece ∷ []) u
 loads_more sealed s t u [] piece h n = (u, subst (λ (v : Store). IsNextRecord sealed v u piece) h n, refl)

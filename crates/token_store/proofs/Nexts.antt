@@ -1,5 +1,5 @@
 -- Why a record is not the next one.
-use Rattle.std.proofs.Common.{◌≡◌, ℕ, ◌<◌, List, length, Option, Some, None, Ok, refl, sym, ap, subst, ◌∙◌, arith}
+use Rattle.std.proofs.Common.{◌≡◌, ℕ, List, length, Option, Some, None, Ok, refl, sym, ap, subst, ◌∙◌, arith}
 use Rattle.token_rule.specs.Rule.{Want, token_start}
 use Rattle.token_rule.specs.Entries.{IsFirstFree}
 use Rattle.token_records.specs.declared.record.Record.{Record}

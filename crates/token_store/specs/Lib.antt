@@ -1,2 +1,3 @@
 pub mod Stores
+pub mod Knowing
 pub mod Loading

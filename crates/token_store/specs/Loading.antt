@@ -1,9 +1,8 @@
 -- Which tokens records spell.
 use Rattle.std.specs.Prelude.{ℕ, ◌≡◌, ◌<◌, List, [], ◌∷◌, ◌++◌, length, Bool, true, false, None}
 use Rattle.token_rule.specs.Rule.{Want}
-use Rattle.token_rule.specs.Entries.{Entry}
 use Rattle.token_records.specs.Records.{IsRecord}
-use Rattle.token_store.specs.Stores.{Store, standing_in, with_entry, Makes}
+use Rattle.token_store.specs.Stores.{Store, standing_in, Makes}
 
 -- a record that the rule gives a store as its next one
 pub record IsNextRecord (sealed : List ℕ → List ℕ → List ℕ → List ℕ → List ℕ) (s t : Store) (piece : List ℕ) : Type 0 where

@@ -1,7 +1,7 @@
 -- The store of tokens.
-use Rattle.std.specs.Prelude.{ℕ, ◌≡◌, ◌≤◌, List, [], ◌∷◌, ◌++◌, length, if◌then◌else◌, Option, None, option_map}
+use Rattle.std.specs.Prelude.{ℕ, ◌≡◌, List, [], ◌∷◌, ◌++◌, if◌then◌else◌, Option, None}
 use Rattle.token_rule.specs.Rule.{Want}
-use Rattle.token_rule.specs.Entries.{Entry, standing_token, entry_of, IsNextToken}
+use Rattle.token_rule.specs.Entries.{Entry, standing_token, IsNextToken}
 
 -- the two keys, the most tokens, and the tokens in the order of making
 pub record Store : Type 0 where

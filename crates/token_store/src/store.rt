@@ -4,6 +4,7 @@ ghost use Rattle.acra_devices.specs.Pieces.{Added, Stayed};
 ghost use Rattle.token_rule.specs.Entries.{entry_of, standing_token};
 ghost use Rattle.token_records.specs.Records.{token_record};
 ghost use Rattle.token_store.specs.Stores.{standing_in, Makes};
+ghost use Rattle.token_store.specs.Loading.{IsNextRecord};
 
 use crate::refusals::TokenRefusal;
 use crate::value::TokenValue;
@@ -80,6 +81,7 @@ impl Tokens {
         ensures standing { (token : ℕ) → standing_in self.old want.now ≡ Some token → (result ≡ Ok token) × (self.new ≡ self.old) × (keeper.new ≡ keeper.old) }
         ensures made { standing_in self.old want.now ≡ None → IfOk result (λ token. Makes self.old self.new want.now token) }
         ensures kept { standing_in self.old want.now ≡ None → IfOk result (λ token. Added (K.kept keeper.old) (K.kept keeper.new) (token_record (A.sealed aead.now) self.old.store_key draws.now want.now (length self.old.entries) token)) }
+        ensures recorded { standing_in self.old want.now ≡ None → IfOk result (λ token. IsNextRecord (A.sealed aead.now) self.old self.new (token_record (A.sealed aead.now) self.old.store_key draws.now want.now (length self.old.entries) token)) }
         ensures full { (result ≡ Err TokenRefusal.Full) ↔ ((standing_in self.old want.now ≡ None) × (length self.old.entries ≡ self.old.limit)) }
         ensures err { OnErr result ((self.new ≡ self.old) × Stayed (K.kept keeper.old) (K.kept keeper.new)) }
         ensures untouched { (IsErrOf result TokenRefusal.Full → keeper.new ≡ keeper.old) × (IsErrOf result TokenRefusal.NoMemory → keeper.new ≡ keeper.old) }

@@ -2,6 +2,12 @@
 #![tactic(auto)]
 
 #[cfg(test)]
+mod clashes;
+#[cfg(test)]
+mod files;
+#[cfg(test)]
+mod many;
+#[cfg(test)]
 mod records;
 #[cfg(test)]
 mod starts;

@@ -7,12 +7,12 @@ use std::test::Fail;
 use token_records::{push_record, read_record};
 
 /// The first token of `555-0100` of the client app, under the store key of the bytes 32 to 63 and the nonce 0 to 11.
-const RECORD: &[u8] =
+pub const RECORD: &[u8] =
     b"\x02\x01\x03app\x00\x00\x00\x00\x00\x00\x00\x00\xf4\x18\x7a\x96\x26\xbd\xbf\x7c\
     \x00\x01\x02\x03\x04\x05\x06\x07\x08\x09\x0a\x0b\x69\x67\x68\x8a\x7a\x04\xdb\xdc\
     \x75\x0e\xc6\xca\x09\xdd\xee\xb0\xd8\x77\xca\x74\x8d\xf0\xbc\x1f";
 
-const NONCE: [u8; 12] = [0, 1, 2, 3, 4, 5, 6, 7, 8, 9, 10, 11];
+pub const NONCE: [u8; 12] = [0, 1, 2, 3, 4, 5, 6, 7, 8, 9, 10, 11];
 
 #[test]
 fn record_by_another_program(rt: HostRuntime) -> Result<(), Fail> {

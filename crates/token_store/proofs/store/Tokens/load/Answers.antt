@@ -1,4 +1,4 @@
-use Rattle.std.proofs.Common.{◌≡◌, ℕ, suc, ◌+◌, ◌<◌, List, [], ◌∷◌, ◌++◌, length, take, drop, get_or, true, false, refl, sym, ap, subst, ◌∙◌, arith, rules}
+use Rattle.std.proofs.Common.{◌≡◌, ℕ, suc, ◌+◌, ◌<◌, List, [], ◌∷◌, ◌++◌, length, take, drop, get_or, true, false, sym, ap, subst, ◌∙◌, arith, rules}
 use Rattle.token_store.specs.Stores.{Store}
 use Rattle.token_store.specs.Loading.{Loads}
 use Rattle.token_store.proofs.Loads.{loads_more, parts_at, take_more, took, left_out}

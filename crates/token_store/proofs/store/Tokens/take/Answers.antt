@@ -1,4 +1,4 @@
-use Rattle.std.proofs.Common.{◌≡◌, refl, sym, ap, ◌∙◌, arith, rules}
+use Rattle.std.proofs.Common.{refl, ap, rules}
 use Rattle.token_store.specs.Stores.{Store}
 use Rattle.token_store.proofs.Nexts.{none_next, full_next, standing_next, serial_next, token_next}
 use Rattle.token_store.proofs.store.Tokens.take.Goals.{then-is_full-via-then-is_full, then-is_full-via-else-is_full+then-is_some, then-is_full-via-else-is_full+else-is_some+then-serial-len}

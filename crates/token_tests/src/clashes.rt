@@ -1,9 +1,11 @@
 //! Tokens whose numbers would be the same.
+ghost use Rattle.std.specs.Prelude.{◌≡◌, ◌≤◌, ◌<◌, ◌+◌, length};
 
 use crate::wants::{key_from, want};
 use acra_base::ValueKind;
 use acra_crypto::Aes256Gcm;
 use acra_devices::MemKeeper;
+use std::alloc::Global;
 use std::test::Fail;
 use token_map::TokenMap;
 use token_rule::token_start;
@@ -30,20 +32,26 @@ fn one_start_for_two_values(rt: HostRuntime) -> Result<(), Fail> {
     Ok(())
 }
 
+/// Gives the number that is free from this one on to a value.
+fn given_from(alloc: Global, map: &mut TokenMap, start: u32) -> Result<u64, Fail>
+    requires { length map.old < 1000 }
+    ensures { length map.new ≤ length map.old + 1 }
+{
+    let kind = ValueKind::Int32;
+    let number = map.free_number(kind, u64::from(start));
+    map.add(want(alloc, kind, b"app", b"1", false)?, number)?;
+    Ok(number)
+}
+
 #[test]
 fn numbers_go_round(rt: HostRuntime) -> Result<(), Fail> {
     let alloc = rt.alloc();
-    for (kind, last) in [
-        (ValueKind::Int32, u64::from(u32::MAX)),
-        (ValueKind::Int64, u64::MAX),
-    ] {
-        let mut map = TokenMap::new(alloc);
-        assert_eq!(rt; map.free_number(kind, last), last);
-        map.add(want(alloc, kind, b"app", b"1", false)?, last)?;
-        assert_eq!(rt; map.free_number(kind, last), 0);
-        map.add(want(alloc, kind, b"app", b"1", false)?, 0)?;
-        assert_eq!(rt; map.free_number(kind, last), 1);
-        assert_eq!(rt; map.free_number(kind, last - 1), last - 1);
-    }
+    let mut map = TokenMap::new(alloc);
+    let last = u64::from(u32::MAX);
+    assert_eq!(rt; given_from(alloc, &mut map, u32::MAX)?, last);
+    assert_eq!(rt; given_from(alloc, &mut map, u32::MAX)?, 0);
+    assert_eq!(rt; given_from(alloc, &mut map, u32::MAX)?, 1);
+    assert_eq!(rt; given_from(alloc, &mut map, u32::MAX - 1)?, last - 1);
+    assert_eq!(rt; given_from(alloc, &mut map, u32::MAX - 1)?, 2);
     Ok(())
 }

@@ -31,21 +31,16 @@ fn make<K: Keeper>(
     Ok(())
 }
 
-/// The front of a file whose last piece is cut off anywhere tells the last piece's place.
-fn tells_the_cut(
-    rt: &impl Abort,
-    alloc: Global,
-    bytes: &[u8],
-    last: usize,
-) -> Result<(), Fail> {
-    for end in last + 1..bytes.len() {
-        match read_pieces(alloc, &bytes[..end]) {
-            Err(fault) => assert_eq!(rt; fault, PiecesFault::NotWhole { place: last }),
-            Ok(_) => Err("a piece that was cut off was read")?,
+/// The front of a file that ends inside its last piece tells that piece's place.
+fn tells_the_cut(rt: &impl Abort, alloc: Global, bytes: &[u8], last: usize) -> Result<(), Fail> {
+    for end in 0..bytes.len() {
+        if end > last {
+            match read_pieces(alloc, &bytes[..end]) {
+                Err(fault) => assert_eq!(rt; fault, PiecesFault::NotWhole { place: last }),
+                Ok(_) => Err("a piece that was cut off was read")?,
+            }
         }
     }
-    let pieces = read_pieces(alloc, &bytes[..last])?;
-    assert_eq!(rt; pieces.as_slice().len(), 2);
     Ok(())
 }
 
@@ -58,23 +53,39 @@ fn tokens_of_a_file(rt: HostRuntime) -> Result<(), Fail> {
     let mut keeper = PieceKeeper::new(alloc, file);
     let mut tokens = Tokens::new(alloc, key_from(0), key_from(32), 3);
     make(alloc, &mut tokens, &mut keeper, &[b"555-0100"])?;
-    let first = fs::read(&rt, FILE)?;
-    assert_eq!(rt; &first[..4], [RECORD.len() as u8, 0, 0, 0].as_slice());
-    assert_eq!(rt; &first[4..], RECORD);
+    let mut first = vec![in alloc; RECORD.len() as u8, 0, 0, 0]?;
+    first.extend_from_slice(RECORD)?;
+    assert_eq!(rt; fs::read(&rt, FILE)?.as_slice(), first.as_slice());
 
-    make(alloc, &mut tokens, &mut keeper, &[b"555-0101", b""])?;
+    make(alloc, &mut tokens, &mut keeper, &[b"555-0101"])?;
+    let last = fs::read(&rt, FILE)?.len();
+    make(alloc, &mut tokens, &mut keeper, &[b""])?;
     let bytes = fs::read(&rt, FILE)?;
+    tells_the_cut(&rt, alloc, &bytes, last)?;
     let pieces = read_pieces(alloc, &bytes)?;
     assert_eq!(rt; pieces.as_slice().len(), 3);
-    let loaded = Tokens::load(alloc, &Aes256Gcm, key_from(0), key_from(32), 3, pieces.as_slice())?;
+    let loaded = Tokens::load(
+        alloc,
+        &Aes256Gcm,
+        key_from(0),
+        key_from(32),
+        3,
+        pieces.as_slice(),
+    )?;
     let value = loaded
         .value_of(ValueKind::Str, 0xf418_7a96_26bd_bf7c)
         .ok_or("the token is lost")?;
     assert_eq!(rt; value.plain, b"555-0100".as_slice());
-    let last = bytes.len() - 4 - pieces.as_slice()[2].as_slice().len();
-    tells_the_cut(&rt, alloc, &bytes, last)?;
     fs::remove_dir_all(&rt, FOLDER)?;
     Ok(())
+}
+
+/// A keeper keeps these pieces.
+fn is_kept(rt: &impl Abort, keeper: &MemKeeper, pieces: &[&[u8]]) {
+    assert_eq!(rt; keeper.kept().len(), pieces.len());
+    for (kept, piece) in keeper.kept().iter().zip(pieces) {
+        assert_eq!(rt; kept.as_slice(), *piece);
+    }
 }
 
 #[test]
@@ -85,12 +96,12 @@ fn pieces_behind_their_lengths(rt: HostRuntime) -> Result<(), Fail> {
     assert_eq!(rt; keeper.append(b"ab"), Ok(()));
     assert_eq!(rt; keeper.append(b"cd"), Err(Failed));
     assert_eq!(rt; keeper.append(b""), Ok(()));
-    let kept = keeper.below().kept();
-    assert_eq!(rt; kept.len(), 2);
-    assert_eq!(rt; kept[0].as_slice(), b"\x02\x00\x00\x00ab".as_slice());
-    assert_eq!(rt; kept[1].as_slice(), b"\x00\x00\x00\x00".as_slice());
+    is_kept(
+        &rt,
+        keeper.below(),
+        &[b"\x02\x00\x00\x00ab", b"\x00\x00\x00\x00"],
+    );
     assert_eq!(rt; keeper.replace(b"z"), Ok(()));
-    assert_eq!(rt; keeper.below().kept().len(), 1);
-    assert_eq!(rt; keeper.below().kept()[0].as_slice(), b"\x01\x00\x00\x00z".as_slice());
+    is_kept(&rt, keeper.below(), &[b"\x01\x00\x00\x00z"]);
     Ok(())
 }

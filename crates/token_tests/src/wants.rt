@@ -1,4 +1,5 @@
 //! Keys and values.
+ghost use Rattle.std.specs.Prelude.{◌≡◌, IfOk};
 
 use acra_base::{Bytes, ClientId, ValueKind};
 use std::alloc::Global;
@@ -22,7 +23,9 @@ pub fn want(
     owner: &[u8],
     plain: &[u8],
     consistent: bool,
-) -> Result<TokenWant, Fail> {
+) -> Result<TokenWant, Fail>
+    ensures { IfOk result (λ want. (want.kind ≡ kind) × (want.consistent ≡ consistent)) }
+{
     let owner = ClientId::read(owner)?;
     let plain = Bytes::copied(alloc, plain)?;
     if is_token_value(kind, plain.as_slice()) {

@@ -61,12 +61,7 @@ impl KnownToken {
 
 impl Tokens {
     /// What a token stands for, copied.
-    pub fn known(
-        &self,
-        alloc: Global,
-        kind: ValueKind,
-        token: u64,
-    ) -> Result<KnownToken, NoMemory>
+    pub fn known(&self, alloc: Global, kind: ValueKind, token: u64) -> Result<KnownToken, NoMemory>
         ensures { IfOk result (λ known. known ≡ known_of self.now kind token) }
     {
         match self.map.entry(kind, token) {

@@ -67,6 +67,24 @@ fn two_tokens(rt: HostRuntime) -> Result<(), Fail> {
 }
 
 #[test]
+fn tokens_that_are_known(rt: HostRuntime) -> Result<(), Fail> {
+    let alloc = rt.alloc();
+    let mut keeper = MemKeeper::new(alloc, Vec::new(alloc));
+    let mut tokens = empty(alloc);
+    let token = given(alloc, &mut tokens, &mut keeper, b"c1", b"5")??;
+    let known = tokens.known(alloc, ValueKind::Str, token)?;
+    assert_eq!(rt; known.token(), token);
+    assert_eq!(rt; known.plain(), b"5".as_slice());
+    let owner = known.owner().ok_or("no owner")?;
+    assert_eq!(rt; owner.text(), b"c1".as_slice());
+    let unknown = tokens.known(alloc, ValueKind::Int64, token)?;
+    assert_eq!(rt; unknown.kind(), ValueKind::Int64);
+    assert!(rt; unknown.owner().is_none());
+    assert!(rt; unknown.plain().is_empty());
+    Ok(())
+}
+
+#[test]
 fn records_in_another_order(rt: HostRuntime) -> Result<(), Fail> {
     let alloc = rt.alloc();
     let mut keeper = MemKeeper::new(alloc, Vec::new(alloc));

@@ -14,6 +14,7 @@ pub mod Readings
 pub mod FrameLaws
 pub mod OneMessage
 pub mod RunLaws
+mod Seen
 pub mod Placing
 pub mod ListPlaces
 pub mod FieldPlaces

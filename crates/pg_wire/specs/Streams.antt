@@ -3,6 +3,8 @@ use Rattle.std.specs.Prelude.{ℕ, ◌≡◌, ◌+◌, ◌%◌, ◌^◌, Bool, t
 use Rattle.pg_wire.specs.declared.frame.Side.{Side}
 use Rattle.pg_wire.specs.declared.frame.Side.TheVariants as side
 use Rattle.pg_wire.specs.declared.frame.Frame.{Frame}
+use Rattle.pg_wire.specs.declared.frame.FrameView.{FrameView}
+use Rattle.pg_wire.specs.declared.frame.BadFrame.{BadFrame}
 use Rattle.pg_wire.specs.declared.frame.NextFault.{NextFault}
 use Rattle.pg_wire.specs.declared.frame.NextFault.TheVariants as next
 use Rattle.pg_wire.specs.Frames.{frame_bytes, IsFrame, asks_encryption, HasFault, IsUnfinished}
@@ -46,3 +48,24 @@ Gives s (Ok (Some frame)) t = GivesFrame s frame t
 Gives s (Ok None) t = IsUnfinished s.who s.limit s.opening s.left × (t ≡ s)
 Gives s (Err (next.Frame offset fault)) t = (offset ≡ s.offset) × HasFault s.who s.limit s.opening s.left fault × (t ≡ s)
 Gives s (Err next.NoMemory) t = t ≡ s
+
+-- the frame that is seen, and its bytes as they came
+abbrev pub frame_of : FrameView → Frame
+frame_of v = record { offset = v.offset; kind = v.kind; body = v.body.now }
+
+-- the frame stands at the front, and behind it the stream would be this one
+pub record SeesFrame (s : Stream) (view : FrameView) : Type 0 where
+  pub after : Stream
+  pub gives : GivesFrame s (frame_of view) after
+  pub whole : view.bytes.now ≡ frame_bytes view.kind view.body.now
+
+-- what is seen at the front
+abbrev pub Sees : Stream → Result (Option FrameView) BadFrame → Type 0
+Sees s (Ok (Some view)) = SeesFrame s view
+Sees s (Ok None) = IsUnfinished s.who s.limit s.opening s.left
+Sees s (Err bad) = (bad.offset ≡ s.offset) × HasFault s.who s.limit s.opening s.left bad.fault
+
+-- the frame that stands at the front was let go, where one stands there
+abbrev pub Passes : Stream → Bool → Stream → Type 0
+Passes s true t = (frame : Frame) × GivesFrame s frame t
+Passes s false t = (t ≡ s) × ((frame : Frame) (u : Stream) → GivesFrame s frame u → ⊥)

@@ -24,6 +24,29 @@ pub struct Frame {
     pub body: Bytes,
 }
 
+/// One message of a stream, where it lies in the framer's memory.
+#[derive(Clone, Copy, Debug)]
+pub struct FrameView<'a> {
+    /// Where its first byte stands in the stream, from 0.
+    pub offset: u64,
+    /// The type byte, 0 for a startup packet.
+    pub kind: u8,
+    /// What follows the length.
+    pub body: &'a [u8],
+    /// All of it, as it came: the type byte, where there is one, the length, and the body.
+    pub bytes: &'a [u8],
+}
+
+/// The bytes from this offset on begin no frame.
+#[derive(Clone, Copy, Debug, PartialEq, Eq, Error)]
+#[error("at byte {offset}: {fault}")]
+pub struct BadFrame {
+    /// Where the first byte that is left stands in the stream, from 0.
+    pub offset: u64,
+    /// What is wrong with it.
+    pub fault: FrameFault,
+}
+
 /// Why no frame begins here, in the order in which the faults are looked for.
 #[derive(Clone, Copy, Debug, PartialEq, Eq, Error)]
 pub enum FrameFault {

@@ -11,6 +11,7 @@ use crate::front::{GSS_REQUEST, TLS_REQUEST};
 const STARTUP_LIMIT: u32 = 10_000;
 
 /// What stands at the front of a stream.
+#[derive(Drop)]
 pub enum Head<'a> {
     /// A frame, and what follows it.
     Whole {

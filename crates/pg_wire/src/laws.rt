@@ -4,7 +4,9 @@ ghost use Rattle.pg_wire.specs.declared.frame.FrameFault.{FrameFault};
 ghost use Rattle.pg_wire.specs.declared.front.Front.{Front};
 ghost use Rattle.pg_wire.specs.declared.back.Back.{Back};
 ghost use Rattle.pg_wire.specs.Frames.{frame_bytes, IsFrame, HasFault, IsUnfinished};
-ghost use Rattle.pg_wire.specs.Streams.{Stream, new_stream};
+ghost use Rattle.pg_wire.specs.declared.frame.Frame.{Frame};
+ghost use Rattle.pg_wire.specs.declared.frame.FrameView.{FrameView};
+ghost use Rattle.pg_wire.specs.Streams.{Stream, new_stream, frame_of, GivesFrame, SeesFrame};
 ghost use Rattle.pg_wire.specs.Runs.{Event, Run, fed_bytes, given, IsSpelled, IsDrained};
 ghost use Rattle.pg_wire.specs.Begins.{Begins};
 ghost use Rattle.pg_wire.specs.Fronts.{IsFront, front_kind, front_body};
@@ -18,6 +20,12 @@ ghost use Rattle.pg_wire.specs.Places.{joined, front_fields, back_fields, IsFron
 pub fn one_frame()
     ensures one { (who : Side) (limit : ℕ) (opening : Bool) (k j : ℕ) (b c x y : List ℕ) → IsFrame who limit opening k b → IsFrame who limit opening j c
         → frame_bytes k b ++ x ≡ frame_bytes j c ++ y → (k ≡ j) × (b ≡ c) × (x ≡ y) }
+{}
+
+/// The frame that is seen is the one that is given out, or let go; and what is left then is one stream.
+pub fn seen_is_given()
+    ensures frame { (s t : Stream) (view : FrameView) (frame : Frame) → SeesFrame s view → GivesFrame s frame t → frame ≡ frame_of view }
+    ensures left { (s t u : Stream) (frame other : Frame) → GivesFrame s frame t → GivesFrame s other u → t ≡ u }
 {}
 
 /// Where there is a fault no frame stands.

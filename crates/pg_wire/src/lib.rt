@@ -21,12 +21,13 @@ mod statements;
 mod write;
 
 pub use back::{Back, ErrorField, Field};
-pub use frame::{Frame, FrameFault, MessageFault, NextFault, ReadBody, Side};
+pub use frame::{BadFrame, Frame, FrameFault, FrameView, MessageFault, NextFault, ReadBody, Side};
 pub use framer::Framer;
 pub use front::{Front, Pair, Target};
 pub use laws::{
     back_places, back_round_trip, fault_is_no_frame, fault_stays, front_places, front_round_trip,
-    one_back, one_fault, one_frame, one_front, one_stream, stream_spelled, unfinished_begins,
+    one_back, one_fault, one_frame, one_front, one_stream, seen_is_given, stream_spelled,
+    unfinished_begins,
 };
 pub use reading_back::read_back;
 pub use reading_front::read_front;

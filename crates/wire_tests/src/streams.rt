@@ -38,6 +38,29 @@ fn frames_of(rt: &impl Abort, alloc: Global, piece: &[u8], rest: &[u8]) -> Vec<L
 }
 
 #[test]
+fn frames_where_they_lie(rt: HostRuntime) {
+    let mut framer = Framer::new(rt.alloc(), Side::Client, 1000);
+    feed(&rt, &mut framer, STREAM);
+    let mut relayed = Vec::new(rt.alloc());
+    for (offset, kind, len) in FRAMES {
+        let view = framer
+            .front()
+            .expect(&rt, "no fault")
+            .expect(&rt, "a whole frame");
+        assert_eq!(rt;
+            (view.offset, view.kind, view.body.len()),
+            (*offset, *kind, *len)
+        );
+        relayed.extend_from_slice(view.bytes).expect(&rt, "memory");
+        assert!(rt; framer.pass());
+    }
+    assert_eq!(rt; relayed.as_slice(), STREAM);
+    assert!(rt; matches!(framer.front(), Ok(None)));
+    assert!(rt; !framer.pass());
+    assert!(rt; framer.is_empty());
+}
+
+#[test]
 fn cuts(rt: HostRuntime) {
     for cut in 0..=STREAM.len() {
         let (piece, rest) = STREAM.split_at(cut);

@@ -1,4 +1,3 @@
-pub mod Listed
 pub mod Reached
 pub mod Search
 pub mod Named

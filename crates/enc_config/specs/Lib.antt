@@ -1,6 +1,4 @@
-pub mod Members
 pub mod Texts
-pub mod Places
 pub mod Words
 pub mod Rules
 pub mod Found
@@ -11,4 +9,3 @@ pub mod Policies
 pub mod Reads
 pub mod Clients
 pub mod FoundClients
-pub mod Order

@@ -9,8 +9,8 @@ use Rattle.enc_config.specs.Words.{kind_from, kind_word, type_word, is_among, ha
 use Rattle.enc_config.specs.Clients.{client_at, seen_schemas}
 use Rattle.enc_config.specs.declared.texts.EntryText.{EntryText}
 use Rattle.enc_config.specs.declared.texts.SchemaText.{SchemaText}
-use Rattle.enc_config.specs.declared.places.Place.{Place}
-use Rattle.enc_config.specs.declared.places.Place.TheVariants.{Text, Entry, Schema}
+use Rattle.json_rules.specs.declared.place.Place.{Place}
+use Rattle.json_rules.specs.declared.place.Place.TheVariants.{Text, Entry, Part}
 
 -- ---- what an entry's words come to
 
@@ -144,14 +144,14 @@ entry_breaks rule s earlier e =
 -- a rule but 7 is broken at a place of these schemas
 abbrev pub tests : List SchemaText → ℕ → Place → Bool
 tests ss rule Text = (rule == 2) && nat_lt 256 (length ss)
-tests ss rule (Schema i) = option_map_or (schema_breaks rule (take i ss)) (slice_get ss i) false
+tests ss rule (Part i) = option_map_or (schema_breaks rule (take i ss)) (slice_get ss i) false
 tests ss rule (Entry i j) =
     option_map_or (λ s. option_map_or (entry_breaks rule s (take j s.entries)) (slice_get s.entries j) false) (slice_get ss i) false
 
 -- rule 7, which counts the clients of the whole text
 abbrev pub client_breaks : List SchemaText → Place → Bool
 client_breaks ss Text = false
-client_breaks ss (Schema i) = false
+client_breaks ss (Part i) = false
 client_breaks ss (Entry i j) = option_map_or (λ s. client_at (seen_schemas [] (take i ss)) s.entries j) (slice_get ss i) false
 
 -- a rule is broken at a place of these schemas

@@ -5,10 +5,10 @@ ghost use Rattle.enc_config.specs.Clients.{seen_with, seen_entries, seen_schemas
 ghost use Rattle.enc_config.specs.FoundClients.{FirstClient, FirstOfClients};
 ghost use Rattle.enc_config.specs.Rules.{client_breaks};
 
-use crate::places::Place;
 use crate::texts::{EntryText, SchemaText};
 use crate::words::is_among;
 use acra_base::{Bytes, ClientId, NoMemory};
+use json_rules::Place;
 use std::alloc::Global;
 
 /// Whether some bytes are a client's name.
@@ -77,7 +77,10 @@ pub(crate) fn first_client(alloc: Global, schemas: &[SchemaText]) -> Result<Opti
     'each: for schema in 0..schemas.len() {
         let found = first_client_in(alloc, &mut seen, schemas[schema].entries.as_slice())?;
         if let Some(entry) = found {
-            return Ok(Some(Place::Entry { schema, entry }));
+            return Ok(Some(Place::Entry {
+                part: schema,
+                entry,
+            }));
         }
     }
     Ok(None)

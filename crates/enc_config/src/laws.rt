@@ -1,19 +1,8 @@
 //! What holds of the definitions of a policy's text.
-ghost use Rattle.std.specs.Prelude.{◌≡◌, ◌↔◌, List};
-ghost use Rattle.enc_config.specs.Places.{IsBefore};
-ghost use Rattle.enc_config.specs.Order.{IsLess, IsOfSchema};
+ghost use Rattle.std.specs.Prelude.{◌≡◌, List};
 ghost use Rattle.enc_config.specs.Reads.{IsPolicy, IsRefusal};
-ghost use Rattle.enc_config.specs.declared.places.Place.{Place};
-ghost use Rattle.enc_config.specs.declared.places.Place.TheVariants.{Text};
 ghost use Rattle.enc_config.specs.declared.policy.Table.{Table};
 ghost use Rattle.enc_config.specs.declared.read.ConfigRefusal.{ConfigRefusal};
-
-/// Places come in the order of the two numbers by which a refusal names them, of which 65535 is the
-/// last. The text as a whole, which has neither number, comes before its schemas.
-pub fn places_by_numbers()
-    ensures schemas { (p : Place) (q : Place) → IsOfSchema p → IsOfSchema q → IsBefore p q ↔ IsLess p q }
-    ensures text { (q : Place) → IsOfSchema q → IsBefore Text q }
-{}
 
 /// A text has one answer: no second policy, no second refusal, and not both.
 pub fn one_answer(text: &[u8])

@@ -5,7 +5,6 @@ mod clients;
 mod defaults;
 mod laws;
 mod make;
-mod members;
 mod places;
 mod policy;
 mod read;
@@ -13,7 +12,8 @@ mod rules;
 mod texts;
 mod words;
 
-pub use laws::{one_answer, places_by_numbers};
+pub use json_rules::{NO_PLACE, places_by_numbers};
+pub use laws::one_answer;
 pub use plain_values::{MOST_PLAIN, ValueRefusal, canonical_binary, canonical_text, spell};
 pub use policy::{Column, ColumnRule, Policy, Shape, Strangers, Table};
-pub use read::{ConfigRefusal, NO_PLACE, PolicyFault, read_policy};
+pub use read::{ConfigRefusal, PolicyFault, read_policy};

@@ -1,8 +1,8 @@
 //! Where a rule is broken, and the search for the refusal that comes first.
 ghost use Rattle.std.specs.Prelude.{◌≡◌, ◌<◌, ◌≤◌, ◌-◌, ℕ, length, take, MatchOption, IfOk, IfSome, false, true};
-ghost use Rattle.enc_config.specs.declared.places.Place.{Place};
-ghost use Rattle.enc_config.specs.declared.places.Place.TheVariants.{Text};
-ghost use Rattle.enc_config.specs.Places.{IsFirst, IsLeast, IsUnbroken};
+ghost use Rattle.json_rules.specs.declared.place.Place.{Place};
+ghost use Rattle.json_rules.specs.declared.place.Place.TheVariants.{Text};
+ghost use Rattle.json_rules.specs.Places.{IsFirst, IsLeast, IsUnbroken};
 ghost use Rattle.enc_config.specs.Rules.{breaks, tests};
 ghost use Rattle.enc_config.specs.Found.{FirstEntry, FoundIn};
 
@@ -10,15 +10,8 @@ use crate::clients::first_client;
 use crate::rules::{entry_breaks, schema_breaks};
 use crate::texts::{EntryText, SchemaText};
 use acra_base::NoMemory;
+use json_rules::{Broken, Place};
 use std::alloc::Global;
-
-/// Where a rule is broken: the text as a whole, an entry of a schema, or a schema.
-#[derive(Clone, Copy)]
-pub(crate) enum Place {
-    Text,
-    Entry { schema: usize, entry: usize },
-    Schema { schema: usize },
-}
 
 /// The first entry of a schema that breaks a rule.
 fn first_entry(rule: u8, text: &SchemaText) -> Option<usize>
@@ -40,10 +33,13 @@ fn first_in(rule: u8, schemas: &[SchemaText], schema: usize) -> Option<Place>
 {
     let text = &schemas[schema];
     if let Some(entry) = first_entry(rule, text) {
-        return Some(Place::Entry { schema, entry });
+        return Some(Place::Entry {
+            part: schema,
+            entry,
+        });
     }
     if schema_breaks(rule, &schemas[..schema], text) {
-        return Some(Place::Schema { schema });
+        return Some(Place::Part { part: schema });
     }
     None
 }
@@ -68,13 +64,6 @@ fn first_place(rule: u8, schemas: &[SchemaText]) -> Option<Place>
         }
     }
     None
-}
-
-/// A rule that is broken, and where.
-#[derive(Clone, Copy)]
-pub(crate) struct Broken {
-    pub(crate) rule: u8,
-    pub(crate) place: Place,
 }
 
 /// The first place that breaks a rule, the seventh too.

@@ -1,18 +1,17 @@
 //! Reading the text of a policy.
 ghost use Rattle.std.specs.Prelude.{◌≡◌, IfOk, IfErr};
-ghost use Rattle.enc_config.specs.Reads.{IsPolicy, IsFault, Fits16, refusal_at};
+ghost use Rattle.json_rules.specs.Order.{Fits16};
+ghost use Rattle.enc_config.specs.Reads.{IsPolicy, IsFault, refusal_at};
 
 use crate::make::policy_of;
-use crate::places::{Place, first_broken};
+use crate::places::first_broken;
 use crate::policy::Policy;
 use crate::texts::read_texts;
 use acra_base::NoMemory;
+use json_rules::{NO_PLACE, Place};
 use std::alloc::Global;
 use std::error::Error;
 use std::fmt;
-
-/// Stands for no schema and for no entry.
-pub const NO_PLACE: u16 = 65535;
 
 /// The least rule that a text breaks, 1 to 14, at its first place: the schema and the entry are
 /// indices from 0, `NO_PLACE` where the rule doesn't concern one.
@@ -64,22 +63,10 @@ fn refusal(rule: u8, place: Place) -> ConfigRefusal
     requires { Fits16 place }
     ensures { result ≡ refusal_at rule place }
 {
-    match place {
-        Place::Text => ConfigRefusal {
-            schema: NO_PLACE,
-            entry: NO_PLACE,
-            rule,
-        },
-        Place::Entry { schema, entry } => ConfigRefusal {
-            schema: schema as u16,
-            entry: entry as u16,
-            rule,
-        },
-        Place::Schema { schema } => ConfigRefusal {
-            schema: schema as u16,
-            entry: NO_PLACE,
-            rule,
-        },
+    ConfigRefusal {
+        schema: place.part_number(),
+        entry: place.entry_number(),
+        rule,
     }
 }
 

@@ -3,16 +3,16 @@ ghost use Rattle.std.specs.Prelude.{◌≡◌, IfOk, MatchResult, map, option_ma
 ghost use Rattle.serde_json.specs.View.{view, members_view};
 ghost use Rattle.serde_json.specs.Data.{no_members};
 ghost use Rattle.serde_json.specs.Find.{as_object};
-ghost use Rattle.enc_config.specs.Members.{all_members, items_at, members_at};
+ghost use Rattle.json_rules.specs.Members.{all_members, items_at, members_at};
 ghost use Rattle.std.specs.List.{list_all};
 ghost use Rattle.enc_config.specs.Texts.{is_sealing_member, is_showing_member, is_text_member, is_flag_member, is_entry_member, is_entry, entry_text, is_text_array, is_text_object, is_schema_member, is_schema, type_texts, schema_text, is_object, is_lone, is_top, top, schemas_of};
 
 use crate::defaults::default_plain;
-use crate::members::{
-    all_members_texts, all_texts, count_at, flag_at, items_at, plain_text, text_at, texts_at,
-};
 use crate::words::kind_from;
 use acra_base::{Bytes, NoMemory, Sequence};
+use json_rules::{
+    all_members_texts, all_texts, count_at, flag_at, items_at, plain_text, text_at, texts_at,
+};
 use serde_json::{Map, Value};
 use std::alloc::Global;
 

@@ -3,14 +3,14 @@ ghost use Rattle.std.specs.Prelude.{◌≡◌, IfOk, map, unwrap_or, string_byte
 ghost use Rattle.std.specs.List.{list_all};
 ghost use Rattle.serde_json.specs.View.{view, members_view};
 ghost use Rattle.serde_json.specs.Find.{as_object, as_str};
-ghost use Rattle.enc_config.specs.Members.{text_at, flag_at, count_at, items_at, members_at, plain_text, all_members, is_text, all_members_texts};
+ghost use Rattle.json_rules.specs.Members.{text_at, flag_at, count_at, items_at, members_at, plain_text, all_members, is_text, all_members_texts};
 
 use acra_base::{Bytes, NoMemory, Sequence};
 use serde_json::{Map, Value};
 use std::alloc::Global;
 
 /// The text at a member's name.
-pub(crate) fn text_at(alloc: Global, value: &Value, name: &str) -> Result<Option<Bytes>, NoMemory>
+pub fn text_at(alloc: Global, value: &Value, name: &str) -> Result<Option<Bytes>, NoMemory>
     ensures { IfOk result (λ o. o ≡ text_at name.now (view value.now)) }
 {
     match value.get(name).and_then(Value::as_str) {
@@ -20,21 +20,21 @@ pub(crate) fn text_at(alloc: Global, value: &Value, name: &str) -> Result<Option
 }
 
 /// The flag at a member's name.
-pub(crate) fn flag_at(value: &Value, name: &str) -> Option<bool>
+pub fn flag_at(value: &Value, name: &str) -> Option<bool>
     ensures { result ≡ flag_at name.now (view value.now) }
 {
     value.get(name).and_then(Value::as_bool)
 }
 
 /// The number at a member's name.
-pub(crate) fn count_at(value: &Value, name: &str) -> Option<u64>
+pub fn count_at(value: &Value, name: &str) -> Option<u64>
     ensures { result ≡ count_at name.now (view value.now) }
 {
     value.get(name).and_then(Value::as_u64)
 }
 
 /// The items of the array at a member's name.
-pub(crate) fn items_at<'a>(value: &'a Value, name: &str) -> &'a [Value]
+pub fn items_at<'a>(value: &'a Value, name: &str) -> &'a [Value]
     ensures { map view result.now ≡ items_at name.now (view value.now) }
 {
     match value.get(name).and_then(Value::as_array) {
@@ -44,18 +44,14 @@ pub(crate) fn items_at<'a>(value: &'a Value, name: &str) -> &'a [Value]
 }
 
 /// The text that a value is.
-pub(crate) fn plain_text(alloc: Global, value: &Value) -> Result<Bytes, NoMemory>
+pub fn plain_text(alloc: Global, value: &Value) -> Result<Bytes, NoMemory>
     ensures { IfOk result (λ t. t ≡ plain_text (view value.now)) }
 {
     Bytes::copied(alloc, value.as_str().unwrap_or("").as_bytes())
 }
 
 /// The texts of the array at a member's name.
-pub(crate) fn texts_at(
-    alloc: Global,
-    value: &Value,
-    name: &str,
-) -> Result<Sequence<Bytes>, NoMemory>
+pub fn texts_at(alloc: Global, value: &Value, name: &str) -> Result<Sequence<Bytes>, NoMemory>
     ensures { IfOk result (λ t. t ≡ map plain_text (items_at name.now (view value.now))) }
 {
     let items = items_at(value, name);
@@ -67,7 +63,7 @@ pub(crate) fn texts_at(
 }
 
 /// Whether each value is a text.
-pub(crate) fn all_texts(items: &[Value]) -> bool
+pub fn all_texts(items: &[Value]) -> bool
     ensures { result ≡ list_all is_text (map view items.now) }
 {
     'each: for item in items {
@@ -79,7 +75,7 @@ pub(crate) fn all_texts(items: &[Value]) -> bool
 }
 
 /// Whether each member of an object is a text.
-pub(crate) fn all_members_texts(members: &Map<String, Value>) -> bool
+pub fn all_members_texts(members: &Map<String, Value>) -> bool
     ensures { result ≡ all_members_texts (members_view members.now.entries) }
 {
     'each: for (_name, value) in members.iter() {

@@ -1,5 +1,5 @@
 pub mod Reached
-pub mod Search
+pub mod Numbers
 pub mod Named
 pub mod Made
 pub mod Bounds

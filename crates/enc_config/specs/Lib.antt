@@ -1,7 +1,7 @@
 pub mod Texts
 pub mod Words
 pub mod Rules
-pub mod Found
+pub mod Searched
 pub mod Defaults
 pub mod Sizes
 pub mod Look

@@ -1,69 +1,60 @@
 //! Where a rule is broken, and the search for the refusal that comes first.
-ghost use Rattle.std.specs.Prelude.{◌≡◌, ◌<◌, ◌≤◌, ◌-◌, ℕ, length, take, MatchOption, IfOk, IfSome, false, true};
+ghost use Rattle.std.specs.Prelude.{◌≡◌, ℕ, false, MatchOption, IfOk};
 ghost use Rattle.json_rules.specs.declared.place.Place.{Place};
-ghost use Rattle.json_rules.specs.declared.place.Place.TheVariants.{Text};
 ghost use Rattle.json_rules.specs.Places.{IsFirst, IsLeast, IsUnbroken};
-ghost use Rattle.enc_config.specs.Rules.{breaks, tests};
-ghost use Rattle.enc_config.specs.Found.{FirstEntry, FoundIn};
+ghost use Rattle.enc_config.specs.Rules.{breaks};
 
 use crate::clients::first_client;
 use crate::rules::{entry_breaks, schema_breaks};
-use crate::texts::{EntryText, SchemaText};
+use crate::texts::SchemaText;
 use acra_base::NoMemory;
-use json_rules::{Broken, Place};
+use json_rules::{Broken, Place, Tested, first_place};
 use std::alloc::Global;
 
-/// The first entry of a schema that breaks a rule.
-fn first_entry(rule: u8, text: &SchemaText) -> Option<usize>
-    ensures { FirstEntry rule text.now result }
-{
-    let entries = text.entries.as_slice();
-    'each: for entry in 0..entries.len() {
-        if entry_breaks(rule, text, &entries[..entry], &entries[entry]) {
-            return Some(entry);
-        }
-    }
-    None
+/// The schemas of a text, under all rules but the seventh.
+#[derive(Drop)]
+struct Schemas<'a> {
+    schemas: &'a [SchemaText],
 }
 
-/// The first place of one schema that breaks a rule.
-fn first_in(rule: u8, schemas: &[SchemaText], schema: usize) -> Option<Place>
-    requires { schema < length schemas.now }
-    ensures { FoundIn (tests schemas.now rule) schema result }
-{
-    let text = &schemas[schema];
-    if let Some(entry) = first_entry(rule, text) {
-        return Some(Place::Entry {
-            part: schema,
-            entry,
-        });
-    }
-    if schema_breaks(rule, &schemas[..schema], text) {
-        return Some(Place::Part { part: schema });
-    }
-    None
-}
+impl Tested for Schemas<'_> {
+    ghost use Rattle.enc_config.specs.Searched as searched;
+    ghost use Rattle.enc_config.specs.Rules.{tests};
+    ghost use Rattle.std.specs.Prelude.{length};
 
-/// Whether the text as a whole breaks a rule.
-fn text_breaks(rule: u8, schemas: &[SchemaText]) -> bool
-    ensures { result ≡ tests schemas.now rule Text }
-{
-    rule == 2 && schemas.len() > 256
-}
+    ghost broken = { λ s rule place. tests s.schemas.now rule place };
 
-/// The first place that breaks a rule.
-fn first_place(rule: u8, schemas: &[SchemaText]) -> Option<Place>
-    ensures { MatchOption result ((q : Place) → tests schemas.now rule q ≡ false) (IsFirst (tests schemas.now rule)) }
-{
-    if text_breaks(rule, schemas) {
-        return Some(Place::Text);
+    ghost parts = { λ s. length s.schemas.now };
+
+    ghost entries = { λ s i. searched.entry_count s.schemas.now i };
+
+    ghost no_part = { λ s rule i past. searched.no_part s.schemas.now rule i past };
+
+    ghost no_entries = { λ s rule i j past. searched.no_entries s.schemas.now rule i j past };
+
+    ghost no_entry = { λ s rule i j within past. searched.no_entry s.schemas.now rule i j within past };
+
+    fn part_count(&self) -> usize {
+        self.schemas.len()
     }
-    'each: for schema in 0..schemas.len() {
-        if let Some(place) = first_in(rule, schemas, schema) {
-            return Some(place);
-        }
+
+    fn entry_count(&self, part: usize) -> usize {
+        self.schemas[part].entries.as_slice().len()
     }
-    None
+
+    fn text_breaks(&self, rule: u8) -> bool {
+        rule == 2 && self.schemas.len() > 256
+    }
+
+    fn part_breaks(&self, rule: u8, part: usize) -> bool {
+        schema_breaks(rule, &self.schemas[..part], &self.schemas[part])
+    }
+
+    fn entry_breaks(&self, rule: u8, part: usize, entry: usize) -> bool {
+        let schema = &self.schemas[part];
+        let entries = schema.entries.as_slice();
+        entry_breaks(rule, schema, &entries[..entry], &entries[entry])
+    }
 }
 
 /// The first place that breaks a rule, the seventh too.
@@ -73,7 +64,7 @@ fn first_of_rule(alloc: Global, rule: u8, schemas: &[SchemaText]) -> Result<Opti
     if rule == 7 {
         first_client(alloc, schemas)
     } else {
-        Ok(first_place(rule, schemas))
+        Ok(first_place(&Schemas { schemas }, rule))
     }
 }
 

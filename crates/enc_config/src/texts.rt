@@ -5,13 +5,14 @@ ghost use Rattle.serde_json.specs.Data.{no_members};
 ghost use Rattle.serde_json.specs.Find.{as_object};
 ghost use Rattle.json_rules.specs.Members.{all_members, items_at, members_at};
 ghost use Rattle.std.specs.List.{list_all};
-ghost use Rattle.enc_config.specs.Texts.{is_sealing_member, is_showing_member, is_text_member, is_flag_member, is_entry_member, is_entry, entry_text, is_text_array, is_text_object, is_schema_member, is_schema, type_texts, schema_text, is_object, is_lone, is_top, top, schemas_of};
+ghost use Rattle.enc_config.specs.Texts.{is_sealing_member, is_showing_member, is_text_member, is_flag_member, is_entry_member, is_entry, entry_text, is_text_array, is_text_object, is_schema_member, is_schema, type_texts, schema_text, schemas_of};
 
 use crate::defaults::default_plain;
 use crate::words::kind_from;
 use acra_base::{Bytes, NoMemory, Sequence};
 use json_rules::{
-    all_members_texts, all_texts, count_at, flag_at, items_at, plain_text, text_at, texts_at,
+    all_members_texts, all_texts, count_at, flag_at, items_at, objects_at, plain_text, read_json,
+    text_at, texts_at,
 };
 use serde_json::{Map, Value};
 use std::alloc::Global;
@@ -268,55 +269,6 @@ fn schema_texts(alloc: Global, items: &[Value]) -> Result<Sequence<SchemaText>, 
     Ok(Sequence::from_vec(texts))
 }
 
-fn are_objects(items: &[Value]) -> bool
-    ensures { result ≡ list_all is_object (map view items.now) }
-{
-    'each: for item in items {
-        if !item.is_object() {
-            return false;
-        }
-    }
-    true
-}
-
-/// Whether the one member of an object is this one.
-fn is_lone(members: &Map<String, Value>, name: &str) -> bool
-    ensures { result ≡ is_lone name.now (members_view members.now.entries) }
-{
-    let mut count = 0u64;
-    'each: for (member, _value) in members.iter() {
-        if member.as_str() != name || count == 1 {
-            return false;
-        }
-        count = 1;
-    }
-    count == 1
-}
-
-fn is_top(value: &Value) -> bool
-    ensures { result ≡ is_top (view value.now) }
-{
-    match value.as_object() {
-        Some(members) => {
-            is_lone(members, "schemas")
-                && value.get("schemas").and_then(Value::as_array).is_some()
-                && are_objects(items_at(value, "schemas"))
-        }
-        None => false,
-    }
-}
-
-/// The schemas that the top of a text holds.
-fn top(value: &Value) -> Option<&[Value]>
-    ensures { option_map (λ v. map view v.now) result ≡ top (view value.now) }
-{
-    if is_top(value) {
-        Some(items_at(value, "schemas"))
-    } else {
-        None
-    }
-}
-
 /// What the schemas of a text say; none where the text is not JSON or its top is another.
 pub(crate) fn read_texts(
     alloc: Global,
@@ -324,17 +276,10 @@ pub(crate) fn read_texts(
 ) -> Result<Option<Sequence<SchemaText>>, NoMemory>
     ensures { IfOk result (λ o. o ≡ schemas_of text.now) }
 {
-    let value = match Value::from_slice(alloc, text) {
-        Ok(value) => value,
-        Err(fault) => {
-            return if fault.is_memory() {
-                Err(NoMemory)
-            } else {
-                Ok(None)
-            };
-        }
+    let Some(value) = read_json(alloc, text)? else {
+        return Ok(None);
     };
-    match top(&value) {
+    match objects_at(&value, "schemas") {
         Some(items) => Ok(Some(schema_texts(alloc, items)?)),
         None => Ok(None),
     }

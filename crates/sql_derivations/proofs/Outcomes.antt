@@ -50,7 +50,7 @@ whole_begins : (placed : List Placed) (front : List Placed) (p : Placed) (more :
 whole_begins placed front p more x e cut =
     one_further (tokens_of front) p.token (tokens_of more) ([], x, append-nil (tokens_of front ++ p.token ∷ tokens_of more) ∙ sym (tokens_append front (p ∷ more)) ∙ sym (ap tokens_of cut) ∙ e)
 
-no_misspelling : (placed rest : List Placed) (x : Text) → tokens_of placed ≡ text_tokens x → IsFault placed rest → rest ≡ []
+pub no_misspelling : (placed rest : List Placed) (x : Text) → tokens_of placed ≡ text_tokens x → IsFault placed rest → rest ≡ []
 no_misspelling placed [] x e f = refl
 no_misspelling placed (p ∷ more) x e f = absurd (f.stops p more refl (whole_begins placed f.front p more x e f.cut))
 

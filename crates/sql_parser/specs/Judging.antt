@@ -3,7 +3,6 @@ use Rattle.std.specs.Prelude.{ℕ, zero, suc, ◌-◌, length, drop, ◌≡◌, 
 use Rattle.sql_tokens.specs.declared.token.Token.{Token}
 use Rattle.sql_tokens.specs.declared.token.Placed.{Placed}
 use Rattle.sql_tree.specs.declared.statement.Statement.{Statement}
-use Rattle.sql_tree.specs.declared.statement.Statement.TheVariants as statement
 use Rattle.sql_tree.specs.Depths.{statement_depth}
 use Rattle.sql_tree.specs.Grammar.{Text, text_tokens}
 use Rattle.sql_tree.specs.Spelling.{Spells, tokens_of}
@@ -62,3 +61,8 @@ TokensGive placed bad end (Err (fault.Refused r)) = elim (r.kind) [
   | kind.Syntax ↦ TokensFail placed bad end r.place
   | kind.TooDeep ↦ (bad ≡ None) × (r.place ≡ end) × ((tree : Statement) × TokensSpell (tokens_of placed) false tree)
 ]
+
+-- the tokens spell the statement, shallow enough, or none
+abbrev pub IsSpelled : List Placed → Option Statement → Type 0
+IsSpelled placed (Some tree) = TokensSpell (tokens_of placed) true tree
+IsSpelled placed None = (tree : Statement) → TokensSpell (tokens_of placed) true tree → ⊥

@@ -5,7 +5,7 @@ mod outside;
 mod parsing;
 mod rewriting;
 
-pub use parsing::parse;
+pub use parsing::{parse, parse_tokens};
 pub use rewriting::rewrite;
 pub use sql_derivations::{
     canonical_text_is_parsed, one_outcome, one_statement, spelled_is_statement,

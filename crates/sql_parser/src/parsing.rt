@@ -4,7 +4,7 @@ ghost use Rattle.std.specs.Prelude.{◌≡◌, ◌≤◌, ◌<◌, ◌^◌, ◌-
 ghost use Rattle.sql_tree.specs.Spelling.{IsGapless, tokens_of};
 ghost use Rattle.sql_reading.specs.Cursor.{AreSmall};
 ghost use Rattle.sql_parser.specs.Judging as judging;
-ghost use Rattle.sql_parser.specs.Judging.{WasRead, TokensGive, is_deep};
+ghost use Rattle.sql_parser.specs.Judging.{WasRead, TokensGive, IsSpelled, is_deep};
 ghost use Rattle.sql_outcomes.specs.Outcome.{Outcome, IsOutcome, IsTold, Tells, place_after};
 ghost use Rattle.sql_outcomes.specs.Outside as outside;
 ghost use Rattle.sql_readers.specs.Passes as passes;
@@ -194,4 +194,20 @@ pub fn parse(alloc: Global, text: &[u8], limit: u32) -> Result<Statement, ParseF
     ensures only { (outcome : Outcome) → IsOutcome text.now limit outcome → Tells result outcome }
 {
     read_text(alloc, text, limit)
+}
+
+/// The statement that tokens spell, if they spell one that a text may spell so: with at most 128 parentheses and NOTs open,
+/// and nodes at most 64 deep.
+pub fn parse_tokens(alloc: Global, tokens: &TokenSlice<'_>) -> Result<Option<Statement>, NoMemory>
+    requires { AreSmall (tokens_of tokens.now) }
+    ensures { IfOk result (λ statement. IsSpelled tokens.now statement) }
+{
+    match outside_place(tokens) {
+        Some(_) => Ok(None),
+        None => match read_tokens(alloc, tokens, None, 0) {
+            Ok(statement) => Ok(Some(statement)),
+            Err(ParseFault::Refused(_)) => Ok(None),
+            Err(ParseFault::NoMemory) => Err(NoMemory),
+        },
+    }
 }

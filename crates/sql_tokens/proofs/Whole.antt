@@ -1,10 +1,11 @@
 -- A text and its tokens.
-use Rattle.std.proofs.Common.{◌≡◌, ℕ, ◌+◌, ◌-◌, ◌≤◌, ◌<◌, List, [], ◌∷◌, ◌++◌, length, length-append, append_assoc, append-nil, ap, subst, ◌∙◌, refl, sym, arith}
+use Rattle.std.proofs.Common.{◌≡◌, ℕ, ◌+◌, ◌-◌, ◌≤◌, ◌<◌, List, [], ◌∷◌, ◌++◌, length, drop, take, length-append, length-drop, append_assoc, append-nil, ap, subst, ◌∙◌, refl, sym, arith}
 use Rattle.std.specs.Prelude.{Option, Some, None}
+use Rattle.std.proofs.lemmas.List.{take_all}
 use Rattle.sql_tokens.specs.declared.token.Token.{Token}
 use Rattle.sql_tokens.specs.declared.token.Placed.{Placed}
 use Rattle.sql_tokens.specs.Tokens.{IsPiece}
-use Rattle.sql_tokens.specs.Lexing.{Lexes, BeginsNone, placed}
+use Rattle.sql_tokens.specs.Lexing.{Lexes, LexesOn, StandsBehind, BeginsNone, placed}
 use Rattle.sql_tokens.specs.Steps.{Takes}
 use Rattle.sql_tokens.proofs.Pieces.{not_empty}
 use Rattle.sql_tokens.proofs.Unique.{one_piece}
@@ -40,16 +41,26 @@ one_lexing _ _ _ b _ g (Lexes.fault at c rest none) m = by_case at (c ∷ rest) 
     (λ bytes left what more e _ is _. absurd (none bytes left what e is))
     (λ _ _ _ _ tokens fault. (sym tokens, sym fault))
 
--- the tokens so far, and what is left
-pub record SoFar (text : List ℕ) (tokens : List Placed) (left : List ℕ) : Type 0 where
+-- the tokens so far of a text from a place on, behind those that stood before, and what is left
+pub record SoFar (text : List ℕ) (from : ℕ) (before tokens : List Placed) (left : List ℕ) : Type 0 where
   pub within : length left ≤ length text
-  pub reads : (more : List Placed) (fault : Option ℕ) → Lexes (length text - length left) left more fault → Lexes 0 text (tokens ++ more) fault
+  pub behind : StandsBehind before tokens
+  pub reads : (more : List Placed) (fault : Option ℕ) → Lexes (length text - length left) left more fault → LexesOn from (drop from text) before (tokens ++ more) fault
 
-pub none_yet : (text : List ℕ) → SoFar text [] text
-none_yet text = record {
-  within = omega arith;
-  reads = λ more fault l. let z : length text - length text ≡ 0 = omega arith in subst (λ n. Lexes n text more fault) z l;
-}
+-- all that a slice from a place on shows
+pub from_place : (text : List ℕ) (from : ℕ) → take (length text - from) (drop from text) ≡ drop from text
+from_place text from = let dropped = length-drop from text in take_all (length text - from) (drop from text) (omega arith)
+
+pub none_yet : (text : List ℕ) (from : ℕ) (before : List Placed) (left : List ℕ) → from ≤ length text → left ≡ drop from text → SoFar text from before before left
+none_yet text from before left inside is = subst (SoFar text from before before) (sym is) (
+    let dropped = length-drop from text in
+    record {
+      within = omega arith;
+      behind = ([], sym (append-nil before));
+      reads = λ more fault l.
+          let at : length text - length (drop from text) ≡ from = omega arith in
+          record { more = more; behind = refl; lexes = subst (λ n. Lexes n (drop from text) more fault) at l };
+    })
 
 pub shorter : (old new : List ℕ) (what : Option Token) → Takes old what new → length new < length old
 shorter old new what h = some h.piece h.whole h.is
@@ -58,34 +69,43 @@ shorter old new what h = some h.piece h.whole h.is
     some [] e is = absurd (not_empty what new is)
     some (b ∷ bs) e is = let l = ap length e in let k = length-append bs new in omega arith
 
-pub one_more : (text : List ℕ) (tokens now : List Placed) (old new : List ℕ) (what : Option Token)
-    → SoFar text tokens old → Takes old what new → now ≡ tokens ++ placed (length text - length old) what [] → SoFar text now new
-one_more text tokens now old new what so_far h pushed =
+further : (before tokens now more : List Placed) → StandsBehind before tokens → now ≡ tokens ++ more → StandsBehind before now
+further before tokens now more (some, e) pushed = (some ++ more, pushed ∙ ap (λ (xs : List Placed). xs ++ more) e ∙ append_assoc before some more)
+
+pub one_more : (text : List ℕ) (from : ℕ) (before tokens now : List Placed) (old new : List ℕ) (what : Option Token)
+    → SoFar text from before tokens old → Takes old what new → now ≡ tokens ++ placed (length text - length old) what [] → SoFar text from before now new
+one_more text from before tokens now old new what so_far h pushed =
     let at = length text - length old in
     let within = so_far.within in
     let e = ap length h.whole in
     let k = length-append h.piece new in
     record {
       within = omega arith;
+      behind = further before tokens now (placed at what []) so_far.behind pushed;
       reads = λ more fault l.
           let next : at + length h.piece ≡ length text - length new = omega arith in
           let whole = Lexes.piece at h.piece new what more fault h.is (subst (λ n. Lexes n new more fault) (sym next) l) in
           let read = so_far.reads (placed at what more) fault (subst (λ (xs : List ℕ). Lexes at xs (placed at what more) fault) (sym h.whole) whole) in
-          subst (λ (xs : List Placed). Lexes 0 text xs fault) (sym (joined at what more pushed)) read;
+          subst (λ (xs : List Placed). LexesOn from (drop from text) before xs fault) (sym (joined at what more pushed)) read;
     }
   where
     joined : (at : ℕ) (what : Option Token) (more : List Placed) → now ≡ tokens ++ placed at what [] → now ++ more ≡ tokens ++ placed at what more
     joined at None more e = ap (λ (xs : List Placed). xs ++ more) (e ∙ append-nil tokens)
     joined at (Some token) more e = ap (λ (xs : List Placed). xs ++ more) e ∙ append_assoc tokens (record { token = token; place = at } ∷ []) more
 
-pub whole_end : (text left : List ℕ) (tokens : List Placed) → SoFar text tokens left → left ≡ [] → Lexes 0 text tokens None
-whole_end text left tokens so_far e =
+pub whole_end : (text : List ℕ) (from : ℕ) (before : List Placed) (left : List ℕ) (tokens : List Placed) → SoFar text from before tokens left → left ≡ [] → LexesOn from (drop from text) before tokens None
+whole_end text from before left tokens so_far e =
     let read = so_far.reads [] None (subst (λ (xs : List ℕ). Lexes (length text - length left) xs [] None) (sym e) (Lexes.end (length text - length left))) in
-    subst (λ (xs : List Placed). Lexes 0 text xs None) (append-nil tokens) read
+    subst (λ (xs : List Placed). LexesOn from (drop from text) before xs None) (append-nil tokens) read
 
-pub whole_bad : (text left : List ℕ) (tokens : List Placed) (place : ℕ) → SoFar text tokens left → BeginsNone left → 1 ≤ length left → place ≡ length left → Lexes 0 text tokens (Some (length text - place))
-whole_bad text [] tokens place so_far none some e = absurd (omega arith)
-whole_bad text (c ∷ rest) tokens place so_far none some e =
+pub whole_bad : (text : List ℕ) (from : ℕ) (before : List Placed) (left : List ℕ) (tokens : List Placed) (place : ℕ)
+    → SoFar text from before tokens left → BeginsNone left → 1 ≤ length left → place ≡ length left → LexesOn from (drop from text) before tokens (Some (length text - place))
+whole_bad text from before [] tokens place so_far none some e = absurd (omega arith)
+whole_bad text from before (c ∷ rest) tokens place so_far none some e =
     let at = length text - length (c ∷ rest) in
     let read = so_far.reads [] (Some at) (Lexes.fault at c rest none) in
-    subst (λ n. Lexes 0 text tokens (Some (length text - n))) (sym e) (subst (λ (xs : List Placed). Lexes 0 text xs (Some at)) (append-nil tokens) read)
+    subst (λ n. LexesOn from (drop from text) before tokens (Some (length text - n))) (sym e) (subst (λ (xs : List Placed). LexesOn from (drop from text) before xs (Some at)) (append-nil tokens) read)
+
+-- behind no tokens, from the beginning on
+pub from_the_first : (text : List ℕ) (old tokens : List Placed) (fault : Option ℕ) → old ≡ [] → LexesOn 0 text old tokens fault → Lexes 0 text tokens fault
+from_the_first text old tokens fault e h = subst (λ (xs : List Placed). Lexes 0 text xs fault) (sym (h.behind ∙ ap (λ (xs : List Placed). xs ++ h.more) e)) h.lexes

@@ -19,3 +19,13 @@ pub data Lexes : ℕ → List ℕ → List Placed → Option ℕ → Type 0 wher
   piece : (at : ℕ) (bytes rest : List ℕ) (what : Option Token) (tokens : List Placed) (fault : Option ℕ)
       → IsPiece bytes what rest → Lexes (at + length bytes) rest tokens fault → Lexes at (bytes ++ rest) (placed at what tokens) fault
   fault : (at c : ℕ) (rest : List ℕ) → BeginsNone (c ∷ rest) → Lexes at (c ∷ rest) [] (Some at)
+
+-- tokens were put behind those that stood
+abbrev pub StandsBehind : List Placed → List Placed → Type 0
+StandsBehind old new = (more : List Placed) × (new ≡ old ++ more)
+
+-- behind those that stood are the tokens of a text from a place on, with its fault
+pub record LexesOn (at : ℕ) (text : List ℕ) (old new : List Placed) (fault : Option ℕ) : Type 0 where
+  pub more : List Placed
+  pub behind : new ≡ old ++ more
+  pub lexes : Lexes at text more fault

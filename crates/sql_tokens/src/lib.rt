@@ -15,7 +15,7 @@ mod tokens;
 
 pub use keyword::Keyword;
 pub use laws::one_lexing;
-pub use lexer::{Lexed, lex};
+pub use lexer::{Lexed, lex, lex_from};
 pub use number::Number;
 pub use sign::Sign;
 pub use slice::{TokenRef, TokenSlice};

@@ -128,6 +128,17 @@ fn mark_of(bytes: &mut Vec<u8>, numbers: &mut Vec<Number>, token: Token) -> Resu
 }
 
 impl Tokens {
+    /// No tokens.
+    pub fn new(alloc: Global) -> Self
+        ensures { result ≡ [] }
+    {
+        Tokens {
+            entries: Vec::new(alloc),
+            bytes: Vec::new(alloc),
+            numbers: Vec::new(alloc),
+        }
+    }
+
     /// No tokens, with room for so many.
     pub(crate) fn with_room(alloc: Global, room: usize) -> Result<Self, NoMemory>
         ensures { IfOk result (λ tokens. tokens ≡ []) }
@@ -140,7 +151,7 @@ impl Tokens {
     }
 
     /// Puts a token at the end. Without memory it is dropped, and the tokens stay.
-    pub(crate) fn push(&mut self, placed: Placed) -> Result<(), NoMemory>
+    pub fn push(&mut self, placed: Placed) -> Result<(), NoMemory>
         ensures ok { OnOk result (self.new ≡ self.old ++ placed ∷ []) }
         ensures err { OnErr result (self.new ≡ self.old) }
     {

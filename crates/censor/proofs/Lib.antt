@@ -1,0 +1,4 @@
+pub mod Listed
+pub mod Bounds
+pub mod Named
+pub mod Answered

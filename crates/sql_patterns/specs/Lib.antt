@@ -1,0 +1,5 @@
+pub mod Holes
+pub mod Standing
+pub mod Matching
+pub mod Fingerprints
+pub mod Patterns

@@ -1,3 +1,6 @@
 mod Bodies
 mod Past
 mod Whole
+mod Passed
+mod Bypassed
+mod Fronts

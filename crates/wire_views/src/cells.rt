@@ -22,7 +22,7 @@ pub fn u16_at(bytes: &[u8]) -> Result<(u16, &[u8]), usize>
 }
 
 /// The number of four bytes at the front.
-fn u32_at(bytes: &[u8]) -> Result<(u32, &[u8]), usize>
+pub fn u32_at(bytes: &[u8]) -> Result<(u32, &[u8]), usize>
     ensures { Sees (λ x. (x.0, x.1.now)) result (be_number_at w32 bytes.now) }
 {
     if bytes.len() < 4 {

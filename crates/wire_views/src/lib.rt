@@ -3,8 +3,11 @@
 #![tactic(auto)]
 
 mod cells;
+mod checking;
+mod fields;
 mod row;
 
+pub use checking::{BadBody, check_back, check_front};
 pub use row::{BadRow, RowView};
 
 #[cfg(test)]

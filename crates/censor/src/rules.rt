@@ -1,23 +1,9 @@
 //! The rules of a censor's settings.
-ghost use Rattle.std.specs.Prelude.{◌≡◌, ◌==◌, not};
-ghost use Rattle.std.specs.List.{list_all};
-ghost use Rattle.acra_base.specs.Names.{is_name};
+ghost use Rattle.std.specs.Prelude.{◌≡◌};
 ghost use Rattle.censor.specs.Rules.{decides_always, is_too_large, has_needless_lists, is_no_text, is_unread, is_bad_table, handler_breaks, entry_breaks};
 
 use crate::handler::{Entry, Handler, Word};
-use json_rules::Tested;
-
-fn is_name(text: &[u8]) -> bool
-    ensures { result ≡ is_name text.now }
-{
-    1 <= text.len() && text.len() <= 63 && has_no_zero(text)
-}
-
-fn has_no_zero(text: &[u8]) -> bool
-    ensures { result ≡ list_all (λ b. not (b == 0)) text.now }
-{
-    text.iter().all(|byte| *byte != 0)
-}
+use json_rules::{Tested, is_name};
 
 /// Whether a handler decides whatever the statement is.
 pub(crate) fn decides_always(word: Option<Word>) -> bool

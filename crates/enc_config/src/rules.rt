@@ -8,9 +8,10 @@ ghost use Rattle.enc_config.specs.Rules.{kind_of, is_mask, is_side, is_masking, 
 
 use crate::texts::{EntryText, SchemaText, TypeText};
 use crate::words::{
-    are_names, has_twice, is_among, is_integer, is_name, is_word, kind_from, kind_word, type_word,
+    are_names, has_twice, is_among, is_integer, is_word, kind_from, kind_word, type_word,
 };
 use acra_base::{Bytes, ValueKind};
+use json_rules::is_name;
 use plain_values::is_plain_text;
 
 pub(crate) fn kind_of(entry: &EntryText) -> ValueKind

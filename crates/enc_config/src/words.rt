@@ -1,11 +1,12 @@
 //! The words of a policy.
-ghost use Rattle.std.specs.Prelude.{◌≡◌, ◌==◌, not, bytes_eq};
+ghost use Rattle.std.specs.Prelude.{◌≡◌, bytes_eq};
 ghost use Rattle.std.specs.List.{list_all};
 ghost use Rattle.acra_base.specs.Names.{is_name};
 ghost use Rattle.plain_values.specs.Values.{is_integer};
 ghost use Rattle.enc_config.specs.Words.{kind_word, type_word, is_among, has_twice, kind_or, kind_from};
 
 use acra_base::{Bytes, ValueKind};
+use json_rules::is_name;
 
 /// Whether some bytes are those of a word.
 pub(crate) fn is_word(text: &[u8], word: &str) -> bool
@@ -52,24 +53,6 @@ pub(crate) fn is_integer(kind: ValueKind) -> bool
     ensures { result ≡ is_integer kind }
 {
     matches!(kind, ValueKind::Int32 | ValueKind::Int64)
-}
-
-fn has_no_zero(text: &[u8]) -> bool
-    ensures { result ≡ list_all (λ b. not (b == 0)) text.now }
-{
-    'each: for byte in text {
-        if *byte == 0 {
-            return false;
-        }
-    }
-    true
-}
-
-/// Whether some bytes are a name.
-pub(crate) fn is_name(text: &[u8]) -> bool
-    ensures { result ≡ is_name text.now }
-{
-    1 <= text.len() && text.len() <= 63 && has_no_zero(text)
 }
 
 /// Whether each text is a name.

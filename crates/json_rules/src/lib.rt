@@ -3,6 +3,7 @@
 
 mod laws;
 mod members;
+mod name;
 mod place;
 mod tested;
 mod top;
@@ -11,6 +12,7 @@ pub use laws::{one_least, places_by_numbers};
 pub use members::{
     all_members_texts, all_texts, count_at, flag_at, items_at, plain_text, text_at, texts_at,
 };
+pub use name::is_name;
 pub use place::{Broken, NO_PLACE, Place};
 pub use tested::{Tested, first_broken, first_place};
 pub use top::{objects_at, read_json};

@@ -4,3 +4,5 @@ mod Whole
 mod Passed
 mod Bypassed
 mod Fronts
+mod Written
+mod Drafted

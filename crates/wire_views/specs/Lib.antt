@@ -1,3 +1,4 @@
 pub mod Seeing
 pub mod Rows
 pub mod Passing
+pub mod Drafts

@@ -4,10 +4,12 @@
 
 mod cells;
 mod checking;
+mod draft;
 mod fields;
 mod row;
 
 pub use checking::{BadBody, check_back, check_front};
+pub use draft::RowDraft;
 pub use row::{BadRow, RowView};
 
 #[cfg(test)]

@@ -1,4 +1,4 @@
-use crate::{BadBody, BadRow, RowView, check_back, check_front};
+use crate::{BadBody, BadRow, RowDraft, RowView, check_back, check_front};
 use std::test::Fail;
 
 /// A body of three cells: `1`, NULL, and the empty text.
@@ -16,6 +16,22 @@ fn cells_where_they_lie(rt: HostRuntime) -> Result<(), Fail> {
     assert_eq!(rt; first, Some(b"1".as_slice()));
     assert_eq!(rt; behind.len(), 2);
     assert!(rt; RowView::of(b"\0\0")?.is_empty());
+    Ok(())
+}
+
+#[test]
+fn cells_written_in_place(rt: HostRuntime) -> Result<(), Fail> {
+    let mut out = vec![in rt.alloc(); b'?']?;
+    let mut draft = RowDraft::begin(&mut out)?;
+    draft.push(Some(b"1".as_slice()), &mut out)?;
+    draft.push(None, &mut out)?;
+    draft.push(Some(b"".as_slice()), &mut out)?;
+    assert!(rt; out.len() < 1 << 30);
+    draft.finish(&mut out);
+    assert_eq!(rt;
+        out.as_slice(),
+        b"?D\0\0\0\x13\0\x03\0\0\0\x011\xff\xff\xff\xff\0\0\0\0".as_slice()
+    );
     Ok(())
 }
 
